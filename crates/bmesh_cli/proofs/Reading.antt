@@ -1,0 +1,89 @@
+-- Lemmas on reading a file to its end.
+use Rattle.std.proofs.Common.{◌≡◌, ℕ, ◌+◌, ◌<◌, ◌≤◌, List, [], ◌++◌, length, take, drop, refl, sym, ap, ◌∙◌, append_assoc, arith, Option, Some, Ok, Err}
+use Rattle.std.proofs.lemmas.List.{append-nil, take-append-drop, length-append, take_all}
+use Rattle.std.proofs.Math.Seq.{take-append_seam}
+use Rattle.std.specs.Option.{option_map}
+use Rattle.bmesh_cli.specs.Files.{Files, bytes_of}
+use Rattle.bmesh_cli.specs.Told.{Told, asked}
+use Rattle.bmesh_cli.specs.Calls.{ReadsNext}
+use Rattle.bmesh_cli.specs.Whole.{IsUpTo, IsWhole}
+use Rattle.bmesh_cli.specs.declared.fault.WorldFault.{WorldFault}
+use Rattle.bmesh_cli.specs.declared.fault.WorldFault.TheVariants.{Failed, NoMemory}
+use Rattle.bmesh_cli.specs.declared.start.Purpose.TheVariants.{Reading}
+
+-- a file was asked for, and only what is left of it may have changed
+abbrev pub IsAsked : Told → Told → List ℕ → Type 0
+IsAsked old t name = t ≡ record (asked old name Reading) { rest = t.rest }
+
+-- all of a file is the file, and one past the limit is past it
+is_up_to_all : (limit : ℕ) (out all : List ℕ) → length out ≤ limit + 1 → out ≡ all → IsUpTo limit out all
+is_up_to_all limit out all few h =
+    let same : length out ≡ length all = ap length h in
+    record {
+      first = h ∙ sym (take_all (limit + 1) all (omega (arith, same)));
+      short = λ _. h;
+      long = (λ more. omega (arith, same), λ more. omega (arith, same));
+    }
+
+is_up_to_past : (limit : ℕ) (out r all : List ℕ) → length out ≤ limit + 1 → limit < length out → out ++ r ≡ all → IsUpTo limit out all
+is_up_to_past limit out r all few more h =
+    let long : length out + length r ≡ length all = sym (length-append out r) ∙ ap length h in
+    let one : limit + 1 ≡ length out = omega arith in
+    record {
+      first = sym (take-append_seam out r) ∙ ap (λ (n : ℕ). take n (out ++ r)) (sym one) ∙ ap (take (limit + 1)) h;
+      short = λ few. absurd (omega arith);
+      long = (λ _. omega (arith, long), λ _. more);
+    }
+
+-- what was read, and what is told to be left, are the file
+abbrev pub AndLeft : Told → Told → List ℕ → List ℕ → Type 0
+AndLeft old t name out = (files : Files) → old.files ≡ Some files → (r : List ℕ) × (t.rest ≡ Some r) × (out ++ r ≡ bytes_of name files)
+
+pub is_asked_start : (old t : Told) (name : List ℕ) → t ≡ record (asked old name Reading) { rest = option_map (bytes_of name) old.files } → IsAsked old t name
+is_asked_start old t name h = h ∙ ap (λ (r : Option (List ℕ)). record (asked old name Reading) { rest = r }) (sym (ap (λ (x : Told). x.rest) h))
+
+pub and_left_start : (old t : Told) (name : List ℕ) → t ≡ record (asked old name Reading) { rest = option_map (bytes_of name) old.files } → AndLeft old t name []
+and_left_start old t name h files told = (bytes_of name files, ap (λ (x : Told). x.rest) h ∙ ap (option_map (bytes_of name)) told, refl)
+
+pub is_asked_more : (old t t' : Told) (name into : List ℕ) (n : ℕ) → IsAsked old t name → ReadsNext t t' into (Ok n) → IsAsked old t' name
+is_asked_more old t t' name into n only h =
+    h.1 ∙ ap (λ (x : Told). record x { rest = option_map (drop n) t.rest }) only
+    ∙ ap (λ (r : Option (List ℕ)). record (asked old name Reading) { rest = r }) (sym (ap (λ (x : Told). x.rest) h.1))
+
+pub and_left_more : (old t t' : Told) (name out into : List ℕ) (n : ℕ) → AndLeft old t name out → ReadsNext t t' into (Ok n) → AndLeft old t' name (out ++ take n into)
+and_left_more old t t' name out into n left h files told =
+    let was = left files told in
+    let next = h.2 was.0 was.1 in (
+      drop n was.0,
+      ap (λ (x : Told). x.rest) h.1 ∙ ap (option_map (drop n)) was.1,
+      append_assoc out (take n into) (drop n was.0) ∙ ap (λ (p : List ℕ). out ++ (p ++ drop n was.0)) next.0
+          ∙ ap (λ (p : List ℕ). out ++ p) (take-append-drop n was.0) ∙ was.2,
+    )
+
+-- nothing was given, though there was room: the file is read
+pub is_whole_at_end : (old t t' : Told) (name out into : List ℕ) (limit n : ℕ) → length out ≤ limit + 1 → 0 < length into → n ≡ 0 → AndLeft old t name out → ReadsNext t t' into (Ok n) → IsWhole old name limit out
+is_whole_at_end old t t' name out into limit n few room zero left h = (
+  few,
+  λ files told.
+      let was = left files told in
+      let none : was.0 ≡ [] = (h.2 was.0 was.1).2 zero room in
+      let all : out ≡ bytes_of name files = sym (append-nil out) ∙ ap (λ (r : List ℕ). out ++ r) (sym none) ∙ was.2 in
+      is_up_to_all limit out (bytes_of name files) few all,
+)
+
+-- more than the limit was given
+pub is_whole_past : (old t : Told) (name out : List ℕ) (limit : ℕ) → length out ≤ limit + 1 → limit < length out → AndLeft old t name out → IsWhole old name limit out
+is_whole_past old t name out limit few more left = (
+  few,
+  λ files told.
+      let was = left files told in
+      is_up_to_past limit out was.0 (bytes_of name files) few more was.2,
+)
+
+-- a fault of reading leaves what was asked for
+pub fault_leaves_started : (old t t' : Told) (name into : List ℕ) (fault : WorldFault) → IsAsked old t name → ReadsNext t t' into (Err fault) → t'.started ≡ (asked old name Reading).started
+fault_leaves_started old t t' name into Failed only h = ap (λ (x : Told). x.started) h.1 ∙ ap (λ (x : Told). x.started) only
+fault_leaves_started old t t' name into NoMemory only h = ap (λ (x : Told). x.started) h ∙ ap (λ (x : Told). x.started) only
+
+pub ok_leaves_started : (old t t' : Told) (name into : List ℕ) (n : ℕ) → IsAsked old t name → ReadsNext t t' into (Ok n) → t'.started ≡ (asked old name Reading).started
+ok_leaves_started old t t' name into n only h = ap (λ (x : Told). x.started) h.1 ∙ ap (λ (x : Told). x.started) only

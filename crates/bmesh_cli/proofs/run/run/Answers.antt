@@ -1,0 +1,5 @@
+use Rattle.bmesh_cli.proofs.Completing.{completes}
+use Rattle.bmesh_cli.proofs.run.run.Goals as goal
+
+pub returns-clause-complete : goal.returns-clause-complete
+returns-clause-complete g c files told = completes _ _ _ _ _ _ c.run_words-status.ensures.cause (c.run_words-status.ensures.ends files told)

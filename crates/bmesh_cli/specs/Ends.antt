@@ -1,0 +1,133 @@
+-- What stands after a run, whatever its status.
+use Rattle.std.specs.Prelude.{ℕ, ◌≡◌, ◌⊎◌, ◌++◌, Bool, true, false, List, take, Result, Ok}
+use Rattle.std.specs.Option.{option_map}
+use Rattle.std.specs.declared.option.Option.{Option}
+use Rattle.std.specs.declared.option.Option.TheVariants.{None, Some}
+use Rattle.mesh_model.specs.Complex.{Complex}
+use Rattle.mesh_session.specs.State.{State, fresh, loaded, steps}
+use Rattle.obj_text.specs.Told.{with_after}
+use Rattle.obj_text.specs.Causes.{Rose}
+use Rattle.obj_text.specs.declared.obj_fault.ObjRefusal.{ObjRefusal}
+use Rattle.script_text.specs.declared.commands.Script.{Script}
+use Rattle.script_text.specs.declared.fault.ScriptRefusal.{ScriptRefusal}
+use Rattle.bmesh_cli.specs.Files.{Files, put}
+use Rattle.bmesh_cli.specs.Told.{Told}
+use Rattle.bmesh_cli.specs.Whole.{KeepsCounts}
+use Rattle.bmesh_cli.specs.Job.{Job}
+use Rattle.bmesh_cli.specs.Run.{Outcome, model_of, script_named}
+use Rattle.bmesh_cli.specs.declared.start.Start.{Start}
+use Rattle.bmesh_cli.specs.declared.status.Status.{Status}
+use Rattle.bmesh_cli.specs.declared.status.Status.TheVariants.{Done, SomeRefused, Usage, ModelRefused, ScriptRefused, InFault, OutFault, NoMemory}
+
+-- the number that the program exits with
+abbrev pub code_of : Status → ℕ
+code_of Done = 0
+code_of SomeRefused = 1
+code_of Usage = 2
+code_of (ModelRefused r) = 3
+code_of (ScriptRefused r) = 4
+code_of InFault = 5
+code_of OutFault = 6
+code_of NoMemory = 7
+
+-- neither the world nor memory failed
+abbrev pub is_answer : Status → Bool
+is_answer Done = true
+is_answer SomeRefused = true
+is_answer Usage = true
+is_answer (ModelRefused r) = true
+is_answer (ScriptRefused r) = true
+is_answer InFault = false
+is_answer OutFault = false
+is_answer NoMemory = false
+
+-- the commands were given, and OUT and the report are whole
+abbrev pub is_delivered : Status → Bool
+is_delivered Done = true
+is_delivered SomeRefused = true
+is_delivered Usage = false
+is_delivered (ModelRefused r) = false
+is_delivered (ScriptRefused r) = false
+is_delivered InFault = false
+is_delivered OutFault = false
+is_delivered NoMemory = false
+
+-- what was made has this text under OUT, if there is one
+abbrev pub made_with : List ℕ → Option (List ℕ) → Option Files → Option Files
+made_with out None made = made
+made_with out (Some text) made = option_map (put out text) made
+
+-- all that an outcome says was made and printed
+pub record MeetsAll (o : Outcome) (out : List ℕ) (old new : Told) : Type 0 where
+  pub made : new.made ≡ made_with out o.made old.made
+  pub printed : new.printed ≡ with_after old.printed o.printed
+
+-- a prefix of the text under OUT may have been made, and nothing was printed
+pub record MadePart (o : Outcome) (out : List ℕ) (old new : Told) : Type 0 where
+  pub made : (new.made ≡ old.made) ⊎ ((text : List ℕ) × (o.made ≡ Some text) × ((n : ℕ) × (new.made ≡ option_map (put out (take n text)) old.made)))
+  pub printed : new.printed ≡ old.printed
+
+-- all of OUT was made, and a prefix of the text to print was printed
+pub record PrintedPart (o : Outcome) (out : List ℕ) (old new : Told) : Type 0 where
+  pub made : new.made ≡ made_with out o.made old.made
+  pub printed : (n : ℕ) × (new.printed ≡ with_after old.printed (take n o.printed))
+
+-- OUT is made before anything is printed, and each in order from its front
+abbrev pub MeetsPart : Outcome → List ℕ → Told → Told → Type 0
+MeetsPart o out old new = MadePart o out old new ⊎ PrintedPart o out old new
+
+-- a fault comes only where its count rose in this run, and every other count and status stays
+abbrev pub Caused : Status → Told → Told → Type 0
+Caused Done old new = KeepsCounts old new
+Caused SomeRefused old new = KeepsCounts old new
+Caused Usage old new = KeepsCounts old new
+Caused (ModelRefused r) old new = KeepsCounts old new
+Caused (ScriptRefused r) old new = KeepsCounts old new
+Caused InFault old new = Rose old.in_faults new.in_faults × (new.out_faults ≡ old.out_faults)
+Caused OutFault old new = Rose old.out_faults new.out_faults × (new.in_faults ≡ old.in_faults)
+Caused NoMemory old new = KeepsCounts old new
+
+-- of these files the first so many were asked for, in order
+abbrev pub AsksFor : List Start → Told → Told → Type 0
+AsksFor starts old new = (n : ℕ) × (new.started ≡ old.started ++ take n starts)
+
+-- the state after the first so many commands of a script on a complex
+abbrev pub IsOnTheWay : Complex → Script → State → Type 0
+IsOnTheWay c s final = (n : ℕ) × (final ≡ (steps (loaded c) (take n s.commands)).1)
+
+-- what an outcome says of a run: where the run ends with an answer, it is the outcome's, with the session and all that is made and
+-- printed; where a fault ends it, a part was made and printed, and after a fault of output the session is the outcome's
+pub record Ends (o : Outcome) (out : List ℕ) (status : Status) (final : State) (old new : Told) : Type 0 where
+  pub answer : is_answer status ≡ true → status ≡ o.status
+  pub session : is_answer status ≡ true → final ≡ o.session
+  pub all : is_answer status ≡ true → MeetsAll o out old new
+  pub part : MeetsPart o out old new
+  pub out_fault : status ≡ OutFault → final ≡ o.session
+
+-- nothing was made or printed, and the session is fresh
+pub record LeavesAll (final : State) (old new : Told) : Type 0 where
+  pub made : new.made ≡ old.made
+  pub printed : new.printed ≡ old.printed
+  pub session : final ≡ fresh
+
+-- the session is fresh, or some of the script's commands were given on the model's complex
+abbrev pub IsPartOf : Result Complex ObjRefusal → Result Script ScriptRefusal → State → Type 0
+IsPartOf model script final = (final ≡ fresh) ⊎ ((c : Complex) × (s : Script) × (model ≡ Ok c) × (script ≡ Ok s) × IsOnTheWay c s final)
+
+-- the same for the words of a command line
+abbrev pub IsPartOfRun : Option Job → Files → State → Type 0
+IsPartOfRun None files final = final ≡ fresh
+IsPartOfRun (Some job) files final = IsPartOf (model_of job.model files) (script_named job.script files) final
+
+-- words that are not accepted are answered by Usage, unless the one line can't be printed
+abbrev pub RefusesWords : Option Job → Status → Type 0
+RefusesWords None status = (status ≡ Usage) ⊎ (status ≡ OutFault) ⊎ (status ≡ NoMemory)
+RefusesWords (Some job) status = status ≡ Usage → ⊥
+
+-- a count rose in this run
+abbrev pub HasRisen : Told → Told → Type 0
+HasRisen old new = Rose old.in_faults new.in_faults ⊎ Rose old.out_faults new.out_faults
+
+-- where words, model and script are accepted and neither count rose, the run is delivered, or memory ran out
+abbrev pub Completes : Outcome → Status → Told → Told → Type 0
+Completes o status old new = is_delivered o.status ≡ true → ¬ HasRisen old new → (is_delivered status ≡ true) ⊎ (status ≡ NoMemory)

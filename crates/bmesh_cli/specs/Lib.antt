@@ -1,0 +1,12 @@
+pub mod Faults
+pub mod Files
+pub mod Told
+pub mod Calls
+pub mod Whole
+pub mod Stored
+pub mod Memory
+pub mod Job
+pub mod Report
+pub mod Run
+pub mod Ends
+pub mod Stops

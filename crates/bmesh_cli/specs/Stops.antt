@@ -1,0 +1,31 @@
+-- What an input gives, or why it gives nothing.
+use Rattle.std.specs.Prelude.{◌≡◌, ℕ, ◌++◌, List, take, Result, Ok, Err}
+use Rattle.obj_text.specs.Causes.{Rose}
+use Rattle.bmesh_cli.specs.Told.{Told}
+use Rattle.bmesh_cli.specs.Whole.{KeepsCounts}
+use Rattle.bmesh_cli.specs.declared.start.Start.{Start}
+use Rattle.bmesh_cli.specs.declared.stop.Stop.{Stop}
+use Rattle.bmesh_cli.specs.declared.stop.Stop.TheVariants.{Refused, Failed, NoMemory}
+
+-- a refusal is the input's; a fault and want of memory say nothing of it
+abbrev pub StopsAs : {T R : Type 0} → Stop R → Result T R → Type 0
+StopsAs (Refused r) verdict = verdict ≡ Err r
+StopsAs Failed verdict = Unit {0}
+StopsAs NoMemory verdict = Unit {0}
+
+-- what is given is the input's, and so is a refusal
+abbrev pub Judges : {T R : Type 0} → Result T (Stop R) → Result T R → Type 0
+Judges (Ok x) verdict = verdict ≡ Ok x
+Judges (Err stop) verdict = StopsAs stop verdict
+
+-- a fault comes only where the count of faults of input rose, and every other answer leaves both counts
+abbrev pub CausesStop : {T R : Type 0} → Result T (Stop R) → Told → Told → Type 0
+CausesStop (Ok _) old new = KeepsCounts old new
+CausesStop (Err (Refused _)) old new = KeepsCounts old new
+CausesStop (Err Failed) old new = Rose old.in_faults new.in_faults × (new.out_faults ≡ old.out_faults)
+CausesStop (Err NoMemory) old new = KeepsCounts old new
+
+-- the files were asked for; or, where nothing is given, the first so many of them
+abbrev pub AsksBefore : {T R : Type 0} → Result T (Stop R) → List Start → Told → Told → Type 0
+AsksBefore (Ok _) starts old new = new.started ≡ old.started ++ starts
+AsksBefore (Err _) starts old new = (n : ℕ) × (new.started ≡ old.started ++ take n starts)

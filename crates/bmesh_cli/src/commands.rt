@@ -1,0 +1,29 @@
+//! The commands of a script, in order.
+
+ghost use Rattle.std.specs.Prelude.{◌≡◌, ℕ, take, length, IfOk};
+ghost use Rattle.mesh_session.specs.State.{IsSoundState, steps};
+
+use mesh_model::slots::Command;
+use mesh_model::{NoMemory, Sequence};
+use mesh_session::{Reply, Session};
+use std::alloc::Global;
+
+/// The replies to some commands in order. After `NoMemory` the first so many commands were given.
+pub fn run_commands(
+    alloc: Global,
+    session: &mut Session,
+    commands: &[Command],
+) -> Result<Sequence<Reply>, NoMemory>
+    requires { IsSoundState session.old }
+    ensures ok { IfOk result (λ replies. (replies, session.new) ≡ steps session.old commands.now) }
+    ensures long { IfOk result (λ replies. length replies ≡ length commands.now) }
+    ensures way { (n : ℕ) × (session.new ≡ (steps session.old (take n commands.now)).1) }
+    ensures sound { IsSoundState session.new }
+{
+    let mut replies = Sequence::new(alloc);
+    for command in commands {
+        let reply = session.step(command)?;
+        replies.push(reply)?;
+    }
+    Ok(replies)
+}

@@ -1,0 +1,8 @@
+use crate::bytes::Bytes;
+
+/// A file: bytes under a name.
+#[derive(Drop, Debug)]
+pub struct Entry {
+    pub name: Bytes,
+    pub bytes: Bytes,
+}

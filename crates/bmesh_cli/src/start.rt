@@ -1,0 +1,15 @@
+use crate::bytes::Bytes;
+
+/// What a file is started for.
+#[derive(Clone, Copy, Debug, PartialEq, Eq)]
+pub enum Purpose {
+    Reading,
+    Writing,
+}
+
+/// A file that was asked for.
+#[derive(Drop, Debug)]
+pub struct Start {
+    pub name: Bytes,
+    pub purpose: Purpose,
+}

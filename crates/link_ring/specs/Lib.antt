@@ -1,0 +1,6 @@
+pub mod Members
+pub mod Ring
+pub mod Changes
+pub mod Walk
+pub mod Limits
+pub mod TwoLists

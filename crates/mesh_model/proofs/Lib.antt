@@ -1,0 +1,5 @@
+pub mod Tables
+pub mod Rings
+pub mod Sides
+pub mod Valids
+pub mod Drafts

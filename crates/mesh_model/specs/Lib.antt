@@ -1,0 +1,11 @@
+pub mod Table
+pub mod NameSet
+pub mod Complex
+pub mod Incidence
+pub mod Naming
+pub mod Making
+pub mod Deleting
+pub mod Valid
+pub mod Draft
+pub mod Words
+pub mod Rows

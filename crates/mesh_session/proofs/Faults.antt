@@ -1,0 +1,43 @@
+-- The first of some terms that is refused.
+use Rattle.std.proofs.Common.{◌≡◌, ℕ, ◌+◌, ◌<◌, Bool, true, false, cond, List, [], ◌∷◌, length, get_or, drop, refl, sym, ap, ◌∙◌, arith, Option, Some, None, is_some, Result, Ok, Err}
+use Rattle.std.specs.List.{All, filter_map, cons_option, slice_get}
+use Rattle.std.proofs.lemmas.List.{drop_more}
+use Rattle.std.proofs.lemmas.List.Elements.{All-cons}
+use Rattle.mesh_model.specs.Table.{at, IsThere}
+use Rattle.mesh_model.specs.Complex.{Complex}
+use Rattle.mesh_model.specs.declared.names.VertName.{VertName}
+use Rattle.mesh_model.specs.declared.names.Elem.TheVariants.{Vert, Edge, Face}
+use Rattle.mesh_model.specs.declared.refusal.Refusal.{Refusal}
+use Rattle.mesh_model.specs.declared.refusal.Why.TheVariants.{NoSuch}
+use Rattle.mesh_model.specs.declared.refusal.Place.TheVariants.{Elem}
+use Rattle.mesh_model.specs.declared.slots.Term.{Term}
+use Rattle.mesh_model.specs.declared.slots.Term.TheVariants.{One}
+use Rattle.mesh_session.specs.Arguments.{term_fault, vert_of, chosen, named_verts}
+
+-- what a term and those after it give
+pub filter_map-drop : {X Y : Type 0} (f : X → Option Y) (xs : List X) (i : ℕ) (d : X) (o : Option Y) → i < length xs → f (get_or xs i d) ≡ o → filter_map f (drop i xs) ≡ cons_option o (filter_map f (drop (i + 1) xs))
+filter_map-drop {X = X} {Y = Y} f xs i d o h is =
+    ap (λ (ys : List X). filter_map f ys) (drop_more xs i d h) ∙ ap (λ (q : Option Y). cons_option q (filter_map f (drop (i + 1) xs))) is
+
+there_or : (c : Complex) (v : VertName) (b : Bool) (ts : List Term) → is_some (at c.verts v.0) ≡ b
+    → slice_get (cons_option (cond b None (Some (record { why = NoSuch; place = Elem (Vert v) }))) (filter_map (term_fault c) ts)) 0 ≡ None → (b ≡ true) × (slice_get (filter_map (term_fault c) ts) 0 ≡ None)
+there_or c v true ts is h = (refl, h)
+there_or c v false ts is h = absurd (cc)
+
+-- where no term is refused, each names a vertex that is there
+pub all_there : (c : Complex) (ts : List Term) → slice_get (filter_map (term_fault c) ts) 0 ≡ None → All (λ (v : VertName). IsThere c.verts v.0) (filter_map vert_of ts)
+all_there c [] h = λ k d less. absurd (omega arith)
+all_there c (One (Vert v) ∷ ts) h =
+    let both = there_or c v (is_some (at c.verts v.0)) ts refl h in
+    All-cons (λ (v : VertName). IsThere c.verts v.0) v (filter_map vert_of ts) both.0 (all_there c ts both.1)
+all_there c (One (Edge e) ∷ ts) h = absurd (cc)
+all_there c (One (Face f) ∷ ts) h = absurd (cc)
+
+chosen_there : (P : VertName → Type 0) (o : Option Refusal) (ws vs : List VertName) → (o ≡ None → All P ws) → chosen o ws ≡ Ok vs → All P vs
+chosen_there P (Some r) ws vs there h = absurd (cc)
+chosen_there P None [] vs there h = absurd (cc)
+chosen_there P None (w ∷ ws) vs there h = let same : w ∷ ws ≡ vs = cc in rw (← same) (there refl)
+
+-- named vertices are there
+pub named_there : (c : Complex) (ts : List Term) (vs : List VertName) → named_verts c ts ≡ Ok vs → All (λ (v : VertName). IsThere c.verts v.0) vs
+named_there c ts vs h = chosen_there (λ (v : VertName). IsThere c.verts v.0) (slice_get (filter_map (term_fault c) ts) 0) (filter_map vert_of ts) vs (all_there c ts) h

@@ -1,0 +1,4 @@
+pub mod Arguments
+pub mod Operators
+pub mod State
+pub mod Rows

@@ -1,0 +1,16 @@
+//! Commands on the square, worked out. The checker proves each statement, and no call does anything.
+
+ghost use Rattle.mesh_session.specs.Rows.{CutsACorner, RefusesAMissingVertex, RefusesOtherTerms, DeletesOnce, NoCommand};
+
+/// Single commands, done and refused.
+pub fn single()
+    ensures cuts { CutsACorner }
+    ensures missing { RefusesAMissingVertex }
+    ensures kinds { RefusesOtherTerms }
+{}
+
+/// Lists of commands.
+pub fn lists()
+    ensures once { DeletesOnce }
+    ensures none { NoCommand }
+{}

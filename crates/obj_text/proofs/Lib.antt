@@ -1,0 +1,5 @@
+pub mod ToldLemmas
+pub mod NumberLemmas
+pub mod WritingLemmas
+pub mod MarkLemmas
+pub mod ReadingLemmas

@@ -1,0 +1,99 @@
+-- A Wavefront OBJ text as a complex.
+use Rattle.std.specs.Prelude.{ℕ, ℤ, pos, ◌*ℤ◌, ◌+◌, ◌-◌, ◌^◌, ◌&&◌, Bool, true, not, nat_lt, nat_le, if◌then◌else◌, List, [], ◌∷◌, map, length, take, is_some, codes, Result, Ok, Err}
+use Rattle.std.specs.List.{list_all, fold, position, enumerate_from}
+use Rattle.std.specs.Option.{option_map}
+use Rattle.std.specs.declared.option.Option.{Option}
+use Rattle.std.specs.declared.option.Option.TheVariants.{None, Some}
+use Rattle.text_words.specs.Text.{lines, words, natural, integer, is_text}
+use Rattle.text_words.specs.Each.{each}
+use Rattle.mesh_model.specs.Table.{at, passes}
+use Rattle.mesh_model.specs.Complex.{Complex, no_complex, corner_sum}
+use Rattle.mesh_model.specs.Making.{with_vert, with_ring}
+use Rattle.mesh_model.specs.Valid.{is_on_grid, are_distinct}
+use Rattle.mesh_model.specs.declared.names.VertName.{VertName}
+use Rattle.mesh_model.specs.declared.records.VertRec.{VertRec}
+use Rattle.obj_text.specs.declared.item.Item.{Item}
+use Rattle.obj_text.specs.declared.item.Item.TheVariants.{Nothing, Vertex, Ring}
+use Rattle.obj_text.specs.declared.obj_fault.ObjRefusal.{ObjRefusal}
+use Rattle.obj_text.specs.declared.obj_fault.ObjWhy.TheVariants.{NotYet}
+
+-- the units of a number of at most 9 digits, at a scale of so many decimal places
+abbrev pub coordinate : ℕ → List ℕ → Option ℤ
+coordinate scale word = option_map (λ n. n *ℤ pos (10 ^ scale)) (integer 9 word)
+
+-- the vertex at three coordinates, if each is there
+abbrev pub vertex : Option ℤ → Option ℤ → Option ℤ → Option Item
+vertex (Some x) (Some y) (Some z) = Some (Vertex (record { x = x; y = y; z = z }))
+vertex _ _ _ = None
+
+-- three coordinates spell a vertex
+abbrev pub spelled_vertex : ℕ → List (List ℕ) → Option Item
+spelled_vertex scale (x ∷ y ∷ z ∷ []) = vertex (coordinate scale x) (coordinate scale y) (coordinate scale z)
+spelled_vertex scale _ = None
+
+-- numbers of at most 7 digits spell a ring
+abbrev pub spelled_ring : List (List ℕ) → Option Item
+spelled_ring words = option_map Ring (each (natural 7) words)
+
+-- what the words of a line spell, whatever stands before it: nothing, `v` a vertex, `f` a ring
+abbrev pub spelled : ℕ → List (List ℕ) → Option Item
+spelled scale [] = Some Nothing
+spelled scale (word ∷ words) = if is_text (codes "v") word then spelled_vertex scale words else (if is_text (codes "f") word then spelled_ring words else None)
+
+-- the vertex of an index, which counts from 1
+abbrev pub vert_at : ℕ → VertName
+vert_at index = record { 0 = index - 1 }
+
+-- an index is that of a vertex read so far
+abbrev pub is_read : List (Option VertRec) → ℕ → Bool
+is_read verts index = nat_lt 0 index && is_some (at verts (index - 1))
+
+-- the limits leave room for a face of so many corners
+abbrev pub has_room : Complex → ℕ → Bool
+has_room c n = nat_lt (length c.faces) 1048576 && (nat_le (length c.edges + n) 2097152 && nat_le (corner_sum c.faces + n) 4194304)
+
+-- a face may stand on these indices: 3 to 4,096 of them, of distinct vertices read so far, and there is room
+abbrev pub is_ring : Complex → List ℕ → Bool
+is_ring c indices = nat_le 3 (length indices) && (nat_le (length indices) 4096 && (list_all (is_read c.verts) indices && (are_distinct (map vert_at indices) && has_room c (length indices))))
+
+-- an item may be added: a point lies on the grid and there is room for it, a face may stand on its indices
+abbrev pub fits : Complex → Item → Bool
+fits c Nothing = true
+fits c (Vertex p) = is_on_grid p && nat_lt (length c.verts) 1048576
+fits c (Ring indices) = is_ring c indices
+
+-- the complex with an item more
+abbrev pub with_item : Complex → Item → Complex
+with_item c Nothing = c
+with_item c (Vertex p) = with_vert c (record { point = p })
+with_item c (Ring indices) = with_ring c (map vert_at indices)
+
+-- the complex with what a line spells, if it spells anything
+abbrev pub with_spelled : Complex → Option Item → Complex
+with_spelled c None = c
+with_spelled c (Some item) = with_item c item
+
+-- the complex of some lines, line after line
+abbrev pub complex_of : ℕ → List (List ℕ) → Complex
+complex_of scale lines = fold (λ c line. with_spelled c (spelled scale (words line))) no_complex lines
+
+-- a line that stands after others is of the form: it spells an item, which may be added to what they make
+abbrev pub is_known : ℕ → List (List ℕ) → List ℕ → Bool
+is_known scale before line = passes (fits (complex_of scale before)) (spelled scale (words line))
+
+-- the first line that isn't of the form, counted from 0
+abbrev pub first_unknown : ℕ → List (List ℕ) → Option ℕ
+first_unknown scale lines = position (λ e. not (is_known scale (take e.0 lines) e.1)) (enumerate_from 0 lines)
+
+-- lines are refused at the first that isn't of the form, counted from 1, and otherwise are their complex
+abbrev pub judged : ℕ → List (List ℕ) → Option ℕ → Result Complex ObjRefusal
+judged scale lines None = Ok (complex_of scale lines)
+judged scale lines (Some n) = Err (record { line = n + 1; why = NotYet })
+
+-- what some lines read as
+abbrev pub read_lines : ℕ → List (List ℕ) → Result Complex ObjRefusal
+read_lines scale lines = judged scale lines (first_unknown scale lines)
+
+-- what a text reads as; one of more than 65,536 bytes is refused as a whole
+abbrev pub read_text : ℕ → List ℕ → Result Complex ObjRefusal
+read_text scale text = if nat_lt 65536 (length text) then Err (record { line = 0; why = NotYet }) else read_lines scale (lines text)

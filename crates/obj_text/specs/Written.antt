@@ -1,0 +1,82 @@
+-- The Wavefront OBJ text of a complex.
+use Rattle.std.specs.Prelude.{ℕ, ℤ, ◌+◌, ◌-◌, ◌/◌, ◌%◌, ◌^◌, ◌==◌, pos, int_lt, unsigned_abs, if◌then◌else◌, List, [], ◌++◌, length, take, codes}
+use Rattle.std.specs.Fmt.{decimal}
+use Rattle.std.specs.List.{flat_map, enumerate_from, repeat}
+use Rattle.std.specs.declared.option.Option.{Option}
+use Rattle.std.specs.declared.option.Option.TheVariants.{None, Some}
+use Rattle.mesh_model.specs.Table.{live}
+use Rattle.mesh_model.specs.Complex.{Complex}
+use Rattle.mesh_model.specs.Incidence.{is_loose}
+use Rattle.mesh_model.specs.declared.names.VertName.{VertName}
+use Rattle.mesh_model.specs.declared.records.Point.{Point}
+use Rattle.mesh_model.specs.declared.records.VertRec.{VertRec}
+use Rattle.mesh_model.specs.declared.records.EdgeRec.{EdgeRec}
+use Rattle.mesh_model.specs.declared.records.CornerRec.{CornerRec}
+use Rattle.mesh_model.specs.declared.records.FaceRec.{FaceRec}
+
+-- a number in at least so many digits, with zeros in front
+abbrev pub padded : ℕ → ℕ → List ℕ
+padded width n = repeat (width - length (decimal n)) (codes "0") ++ decimal n
+
+-- a number of units without sign: the whole part, and at a scale above 0 a point and the decimal places
+abbrev pub magnitude : ℕ → ℕ → List ℕ
+magnitude scale n = if scale == 0 then decimal n else decimal (n / 10 ^ scale) ++ (codes "." ++ padded scale (n % 10 ^ scale))
+
+-- a number of units at a scale, with a minus where it is below 0
+abbrev pub grid_number : ℕ → ℤ → List ℕ
+grid_number scale n = if int_lt n (pos 0) then codes "-" ++ magnitude scale (unsigned_abs n) else magnitude scale (unsigned_abs n)
+
+-- the index of a vertex: its place among the live vertices by rising name, from 1
+abbrev pub index : Complex → ℕ → ℕ
+index c v = live (take v c.verts) + 1
+
+-- a line `v X Y Z` for a point
+abbrev pub vert_line : ℕ → Point → List ℕ
+vert_line scale p = codes "v " ++ (grid_number scale p.x ++ (codes " " ++ (grid_number scale p.y ++ (codes " " ++ (grid_number scale p.z ++ codes "\n")))))
+
+-- the line of what stands at a vertex's name
+abbrev pub vert_entry : ℕ → Option VertRec → List ℕ
+vert_entry scale None = []
+vert_entry scale (Some r) = vert_line scale r.point
+
+-- the lines of the vertices by rising name
+abbrev pub vert_lines : ℕ → Complex → List ℕ
+vert_lines scale c = flat_map (vert_entry scale) c.verts
+
+-- a line `l A B` for two indices
+abbrev pub wire_line : ℕ → ℕ → List ℕ
+wire_line a b = codes "l " ++ (decimal a ++ (codes " " ++ (decimal b ++ codes "\n")))
+
+-- the line of what stands at an edge's name, if no face has it
+abbrev pub wire_entry : Complex → ℕ × Option EdgeRec → List ℕ
+wire_entry c (n, None) = []
+wire_entry c (n, Some e) = if is_loose c n then wire_line (index c e.a.0) (index c e.b.0) else []
+
+-- the lines of the loose edges by rising name
+abbrev pub wire_lines : Complex → List ℕ
+wire_lines c = flat_map (wire_entry c) (enumerate_from 0 c.edges)
+
+-- a corner as a word, after a space
+abbrev pub corner_word : Complex → CornerRec → List ℕ
+corner_word c k = codes " " ++ decimal (index c k.vert.0)
+
+-- the words of a face's corners
+abbrev pub corner_words : Complex → List CornerRec → List ℕ
+corner_words c corners = flat_map (corner_word c) corners
+
+-- a line `f A B C ..` for a face
+abbrev pub face_line : Complex → List CornerRec → List ℕ
+face_line c corners = codes "f" ++ (corner_words c corners ++ codes "\n")
+
+-- the line of what stands at a face's name
+abbrev pub face_entry : Complex → Option FaceRec → List ℕ
+face_entry c None = []
+face_entry c (Some f) = face_line c f.corners
+
+-- the lines of the faces by rising name
+abbrev pub face_lines : Complex → List ℕ
+face_lines c = flat_map (face_entry c) c.faces
+
+-- the text: its vertices, its loose edges, its faces
+abbrev pub text : ℕ → Complex → List ℕ
+text scale c = vert_lines scale c ++ (wire_lines c ++ face_lines c)

@@ -1,0 +1,14 @@
+pub mod Bits
+pub mod Ending
+pub mod Growing
+pub mod Heap
+pub mod Holding
+pub mod Links
+pub mod Memory
+pub mod Opens
+pub mod Rows
+pub mod Sharing
+pub mod SlotFacts
+pub mod Steps
+pub mod Sweeps
+pub mod Vacancy

@@ -1,0 +1,4 @@
+pub mod WhyText
+pub mod Script
+pub mod Parses
+pub mod Rows

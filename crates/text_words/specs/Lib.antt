@@ -1,0 +1,4 @@
+pub mod Each
+pub mod Text
+pub mod Laws
+pub mod Rows

@@ -1,0 +1,53 @@
+-- Lines, words and numbers of a text.
+use Rattle.std.specs.Prelude.{ℕ, ℤ, pos, neg_ℤ, ◌+◌, ◌-◌, ◌*◌, ◌^◌, ◌==◌, ◌&&◌, ◌||◌, Bool, not, nat_eq, nat_lt, nat_le, if◌then◌else◌, List, [], ◌∷◌, length}
+use Rattle.std.specs.List.{slice_split, filter, list_all}
+use Rattle.std.specs.Option.{option_map}
+use Rattle.std.specs.declared.option.Option.{Option}
+use Rattle.std.specs.declared.option.Option.TheVariants.{None, Some}
+use lib.Pointwise.{pointwise}
+
+-- the parts of a text between the bytes that are a separator
+abbrev pub parts_of : ℕ → List ℕ → List (List ℕ)
+parts_of separator text = slice_split (λ b. b == separator) text
+
+-- the lines of a text: its parts between line feeds
+abbrev pub lines : List ℕ → List (List ℕ)
+lines text = parts_of 10 text
+
+-- a blank is a space, a tab or a carriage return
+abbrev pub is_blank : ℕ → Bool
+is_blank b = (b == 32) || (b == 9) || (b == 13)
+
+-- a word isn't empty
+abbrev pub is_word : List ℕ → Bool
+is_word part = not (length part == 0)
+
+-- the words of a line: the parts between blanks that aren't empty
+abbrev pub words : List ℕ → List (List ℕ)
+words line = filter is_word (slice_split is_blank line)
+
+-- a digit is one of the bytes from 0 to 9
+abbrev pub is_digit : ℕ → Bool
+is_digit b = nat_le 48 b && nat_le b 57
+
+-- 1 to so many digits and nothing else
+abbrev pub are_digits : ℕ → List ℕ → Bool
+are_digits most ds = nat_lt 0 (length ds) && (nat_le (length ds) most && list_all is_digit ds)
+
+-- the number that digits spell: each digit times the power of ten of its place
+abbrev pub value : List ℕ → ℕ
+value [] = 0
+value (d ∷ ds) = (d - 48) * 10 ^ length ds + value ds
+
+-- the number that 1 to so many digits spell, or None for any other text
+abbrev pub natural : ℕ → List ℕ → Option ℕ
+natural most ds = if are_digits most ds then Some (value ds) else None
+
+-- the number that an optional minus and 1 to so many digits spell, or None for any other word
+abbrev pub integer : ℕ → List ℕ → Option ℤ
+integer most [] = None
+integer most (b ∷ ds) = if b == 45 then option_map (λ n. neg_ℤ (pos n)) (natural most ds) else option_map pos (natural most (b ∷ ds))
+
+-- a word is a given text
+abbrev pub is_text : List ℕ → List ℕ → Bool
+is_text text word = pointwise nat_eq word text

@@ -1,0 +1,12 @@
+//! Lines, words and numbers of a text, as bytes.
+#![tactic(auto)]
+
+pub mod laws;
+mod numbers;
+mod pieces;
+
+pub use numbers::{integer, natural};
+pub use pieces::{is_text, lines, parts, words};
+
+#[cfg(test)]
+mod tests;

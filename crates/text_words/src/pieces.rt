@@ -1,0 +1,70 @@
+//! A text in pieces: its lines, its words, the parts between separators.
+ghost use Rattle.std.specs.Prelude.{◌≡◌, map, IfOk};
+ghost use Rattle.std.specs.List.{filter, slice_split};
+ghost use Rattle.text_words.specs.Text.{lines, parts_of, is_blank, is_word, words, is_text};
+
+use mesh_model::NoMemory;
+use std::alloc::Global;
+
+/// The lines of a text, which line feeds separate: one more than there are line feeds.
+/// A text that ends in a line feed has an empty last line.
+///
+/// Takes time and memory in proportion to the text, and fails only for want of memory.
+pub fn lines(alloc: Global, text: &[u8]) -> Result<Vec<&[u8]>, NoMemory>
+    ensures { IfOk result (λ v. map (λ l. l.now) v.items ≡ lines text.now) }
+{
+    let lines = parts(alloc, text, b'\n')?;
+    Ok(lines)
+}
+
+/// The parts of a text between the separators, empty ones too: one more than there are separators.
+///
+/// Takes time and memory in proportion to the text, and fails only for want of memory.
+pub fn parts(alloc: Global, text: &[u8], separator: u8) -> Result<Vec<&[u8]>, NoMemory>
+    ensures { IfOk result (λ v. map (λ p. p.now) v.items ≡ parts_of separator text.now) }
+{
+    text.split(|b| *b == separator).collect(alloc)
+}
+
+/// The words of a line: the parts between blanks that aren't empty. A blank is a space, a tab or a
+/// carriage return.
+///
+/// Takes time and memory in proportion to the line, and fails only for want of memory.
+pub fn words(alloc: Global, line: &[u8]) -> Result<Vec<&[u8]>, NoMemory>
+    ensures { IfOk result (λ v. map (λ w. w.now) v.items ≡ words line.now) }
+{
+    let parts = parts_between_blanks(alloc, line)?;
+    let words = nonempty(alloc, &parts)?;
+    Ok(words)
+}
+
+fn parts_between_blanks(alloc: Global, line: &[u8]) -> Result<Vec<&[u8]>, NoMemory>
+    ensures { IfOk result (λ v. map (λ p. p.now) v.items ≡ slice_split is_blank line.now) }
+{
+    line.split(|b| is_blank(*b)).collect(alloc)
+}
+
+fn nonempty<'a>(alloc: Global, parts: &[&'a [u8]]) -> Result<Vec<&'a [u8]>, NoMemory>
+    ensures { IfOk result (λ v. v.items ≡ filter (λ p. is_word p.now) parts.now) }
+{
+    parts.iter().copied().filter(|p| is_word(p)).collect(alloc)
+}
+
+fn is_word(part: &[u8]) -> bool
+    ensures { result ≡ is_word part.now }
+{
+    !part.is_empty()
+}
+
+fn is_blank(b: u8) -> bool
+    ensures { result ≡ is_blank b }
+{
+    b == b' ' || b == b'\t' || b == b'\r'
+}
+
+/// Whether a word is a given text, byte by byte.
+pub fn is_text(text: &[u8], word: &[u8]) -> bool
+    ensures { result ≡ is_text text.now word.now }
+{
+    word == text
+}
