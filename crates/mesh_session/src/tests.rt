@@ -17,12 +17,19 @@ use std::alloc::Global;
 use std::test::Fail;
 
 const V0: Elem = Elem::Vert(VertName(0));
+
 const V1: Elem = Elem::Vert(VertName(1));
+
 const V2: Elem = Elem::Vert(VertName(2));
+
 const V3: Elem = Elem::Vert(VertName(3));
+
 const V8: Elem = Elem::Vert(VertName(8));
+
 const V9: Elem = Elem::Vert(VertName(9));
+
 const E1: Elem = Elem::Edge(EdgeName(1));
+
 const F0: Elem = Elem::Face(FaceName(0));
 
 // The vertices of the square with corners at 0 and 4, named in order round it.
@@ -146,9 +153,18 @@ fn face(session: &Session, f: FaceName) -> Option<(u32, (VertName, EdgeName))> {
 fn square_is_loaded(rt: HostRuntime) -> Result<(), Fail> {
     let session = square_loaded(rt.alloc())?;
     assert_eq!(rt; counts(&session), [4, 4, 1, 4, 0, 0]);
-    assert_eq!(rt; point(&session, VertName(2)), Some(Point { x: 4, y: 4, z: 0 }));
-    assert_eq!(rt; edge(&session, EdgeName(3)), Some(([VertName(3), VertName(0)], false)));
-    assert_eq!(rt; face(&session, FaceName(0)), Some((4, (VertName(3), EdgeName(3)))));
+    assert_eq!(rt;
+        point(&session, VertName(2)),
+        Some(Point { x: 4, y: 4, z: 0 })
+    );
+    assert_eq!(rt;
+        edge(&session, EdgeName(3)),
+        Some(([VertName(3), VertName(0)], false))
+    );
+    assert_eq!(rt;
+        face(&session, FaceName(0)),
+        Some((4, (VertName(3), EdgeName(3))))
+    );
     assert_eq!(rt; session.face_from(0), Some(FaceName(0)));
     Ok(())
 }
@@ -163,8 +179,14 @@ fn vertex_is_deleted(rt: HostRuntime) -> Result<(), Fail> {
     assert_eq!(rt; session.edge_from(0), Some(EdgeName(1)));
     assert_eq!(rt; session.edge_from(3), None);
     assert_eq!(rt; session.face_from(0), None);
-    assert_eq!(rt; edge(&session, EdgeName(1)), Some(([VertName(1), VertName(2)], true)));
-    assert_eq!(rt; edge(&session, EdgeName(2)), Some(([VertName(2), VertName(3)], true)));
+    assert_eq!(rt;
+        edge(&session, EdgeName(1)),
+        Some(([VertName(1), VertName(2)], true))
+    );
+    assert_eq!(rt;
+        edge(&session, EdgeName(2)),
+        Some(([VertName(2), VertName(3)], true))
+    );
     for (elem, there) in [(V0, false), (V1, true), (V2, true), (V3, true)] {
         assert_eq!(rt; session.has(elem), there);
     }
@@ -186,7 +208,13 @@ fn commands_are_refused(rt: HostRuntime) -> Result<(), Fail> {
     let face = delete(rt.alloc(), &mut session, &[F0])?;
     assert_eq!(rt; refusal(&face), refused_at(Why::WrongKind, F0));
     let empty = delete(rt.alloc(), &mut session, &[])?;
-    assert_eq!(rt; refusal(&empty), Some(Refusal { why: Why::Empty, place: Place::Nowhere }));
+    assert_eq!(rt;
+        refusal(&empty),
+        Some(Refusal {
+            why: Why::Empty,
+            place: Place::Nowhere
+        })
+    );
     assert_eq!(rt; counts(&session), [4, 4, 1, 4, 0, 0]);
     assert_eq!(rt; session.vert_from(0), Some(VertName(0)));
     Ok(())

@@ -52,7 +52,11 @@ fn vertex(scale: u8, x: &[u8], y: &[u8], z: &[u8]) -> Option<Item>
     requires { scale ≤ 6 }
     ensures { result ≡ vertex (coordinate scale x.now) (coordinate scale y.now) (coordinate scale z.now) }
 {
-    match (coordinate(scale, x), coordinate(scale, y), coordinate(scale, z)) {
+    match (
+        coordinate(scale, x),
+        coordinate(scale, y),
+        coordinate(scale, z),
+    ) {
         (Some(x), Some(y), Some(z)) => Some(Item::Vertex(Point { x, y, z })),
         _ => None,
     }
