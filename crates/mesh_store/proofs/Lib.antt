@@ -1,0 +1,5 @@
+pub mod Places
+pub mod Directory
+pub mod Growth
+pub mod Writes
+pub mod Names

@@ -1,0 +1,52 @@
+-- A write over one cell, as the links and the spare slots see it.
+use Rattle.std.proofs.Common.{◌≡◌, ℕ, zero, suc, ◌<◌, List, [], ◌∷◌, Option, Some, None, map, length, refl, sym, ap, ◌∙◌}
+use Rattle.std.specs.Prelude.{slice_set}
+use Rattle.std.specs.Option.{option_map}
+use Rattle.std.proofs.Math.Seq.{map-set_same}
+use Rattle.raw_pool.specs.declared.pool.Slot.{Slot}
+use Rattle.raw_pool.specs.Slots.{spare_count}
+use Rattle.raw_pool.proofs.SlotFacts.{spare_same}
+use Rattle.mesh_store.specs.Slots.{at}
+use Rattle.mesh_store.specs.Naming.{NamedCells}
+use Rattle.mesh_store.specs.Stored.{Stored, without_disk, without_radial, without_round, beside_darts, beside_radials, beside_rounds}
+use Rattle.mesh_store.specs.declared.cells.EdgeCell.{EdgeCell}
+use Rattle.mesh_store.specs.declared.cells.LoopCell.{LoopCell}
+use Rattle.mesh_store.proofs.Places.{written}
+
+-- of two writes to one place the second counts
+pub write_twice : {X : Type 0} (xs : List X) (i : ℕ) (a b : X) → slice_set (slice_set xs i a) i b ≡ slice_set xs i b
+write_twice [] i a b = refl
+write_twice (x ∷ xs) zero a b = refl
+write_twice {X} (x ∷ xs) (suc i) a b = ap (λ (ys : List X). x ∷ ys) (write_twice xs i a b)
+
+-- a write that leaves what f tells of a cell leaves it of all
+beside : {X Y : Type 0} (f : X → Y) (xs : List (Option X)) (s : ℕ) (x y : X) → at xs s ≡ Some x → f y ≡ f x → map (option_map f) (slice_set xs s (Some y)) ≡ map (option_map f) xs
+beside f xs s x y was same = map-set_same (option_map f) xs s (Some y) None (ap Some same ∙ ap (option_map f) (sym was))
+
+-- a write of disk links leaves all else
+pub darts_beside : (st : Stored) (s : ℕ) (e f : EdgeCell) → at st.edges.cells s ≡ Some e → without_disk f ≡ without_disk e
+    → beside_darts (record st { edges = record { cells = slice_set st.edges.cells s (Some f); names = st.edges.names } }) ≡ beside_darts st
+darts_beside st s e f was same =
+    ap (λ (cs : List (Option EdgeCell)). record st { edges = record { cells = cs; names = st.edges.names } }) (beside without_disk st.edges.cells s e f was same)
+
+-- a write of radial links leaves all else
+pub radials_beside : (st : Stored) (s : ℕ) (k l : LoopCell) → at st.loops s ≡ Some k → without_radial l ≡ without_radial k
+    → beside_radials (record st { loops = slice_set st.loops s (Some l) }) ≡ beside_radials st
+radials_beside st s k l was same = ap (λ (ls : List (Option LoopCell)). record st { loops = ls }) (beside without_radial st.loops s k l was same)
+
+-- a write of links around a face leaves all else
+pub rounds_beside : (st : Stored) (s : ℕ) (k l : LoopCell) → at st.loops s ≡ Some k → without_round l ≡ without_round k
+    → beside_rounds (record st { loops = slice_set st.loops s (Some l) }) ≡ beside_rounds st
+rounds_beside st s k l was same = ap (λ (ls : List (Option LoopCell)). record st { loops = ls }) (beside without_round st.loops s k l was same)
+
+-- a cell is added, and written over at once
+pub added_over : {X : Type 0} (p q r : NamedCells X) (names : List (Option Slot)) (s : ℕ) (x y : X) → q ≡ record { cells = slice_set p.cells s (Some x); names = names }
+    → r ≡ record { cells = slice_set q.cells s (Some y); names = q.names } → r ≡ record { cells = slice_set p.cells s (Some y); names = names }
+added_over {X} p q r names s x y e f =
+    f
+    ∙ ap (λ (t : NamedCells X). record { cells = slice_set t.cells s (Some y); names = t.names }) e
+    ∙ ap (λ (cs : List (Option X)). record { cells = cs; names = names }) (write_twice p.cells s (Some x) (Some y))
+
+-- the write over takes no slot
+pub spare_over : {X : Type 0} (xs ys : List (Option X)) (s : ℕ) (x y : X) → s < length xs → ys ≡ slice_set xs s (Some x) → spare_count (slice_set ys s (Some y)) ≡ spare_count ys
+spare_over {X} xs ys s x y h e = spare_same ys s x y (ap (λ (zs : List (Option X)). at zs s) e ∙ written xs s (Some x) h)
