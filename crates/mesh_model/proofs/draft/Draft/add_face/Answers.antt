@@ -39,3 +39,6 @@ invariant_of-self-2 c =
     (rw long c.requires.least) (rw long c.requires.most) c.requires.distinct (verts_there old.verts.items c.args.corners.now (rw (← c.self.view_is) at c.requires.there))
     c.in_ok-widen.ensures.members (rw (c.as_slice.ensures, ring_is) at c.insert_edges.ensures.members) room c.self.invariant in
     rw (c.in_ok-push.ensures.items, c.in_ok-reserve.ensures.items, ring_is, edges_is, ← long) kept
+
+pub returns-clause-valid : goal.returns-clause-valid
+returns-clause-valid c = (invariant_of-self-2 c).valid

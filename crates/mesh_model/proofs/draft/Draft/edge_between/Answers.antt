@@ -15,3 +15,6 @@ invariant_of-self-2 c =
       wide = rw c.in_ok-name.ensures.ok (omega (arith, few));
       corners = c.self.invariant.corners;
     }
+
+pub returns-clause-valid : goal.returns-clause-valid
+returns-clause-valid c = (invariant_of-self-2 c).valid
