@@ -1,4 +1,4 @@
-ghost use Rattle.std.specs.Prelude.{◌≡◌, OnErr, OnOk, IfOk, length};
+ghost use Rattle.std.specs.Prelude.{◌≡◌, [], ◌∷◌, ◌++◌, OnErr, OnOk, IfOk, length};
 ghost use Rattle.std.specs.List.{All};
 ghost use Rattle.mesh_model.specs.Table.{IsThere};
 ghost use Rattle.mesh_model.specs.Deleting.{without_verts};
@@ -114,10 +114,7 @@ impl Session {
         ensures err { OnErr result (self.new ≡ self.old) }
         ensures sound { IsSoundState self.new }
     {
-        self.undo.reserve(1)?;
-        let before = mem::replace(&mut self.current, next);
-        self.undo.push(before)?;
-        self.redo.clear();
+        put_next(&mut self.current, &mut self.undo, &mut self.redo, next)?;
         Ok(())
     }
 
@@ -134,6 +131,25 @@ impl Session {
     {
         self.redo.len()
     }
+}
+
+// Puts a complex in the place of the current one, which goes to the end of the undo list, and empties the redo list.
+fn put_next(
+    current: &mut Draft,
+    undo: &mut Vec<Draft>,
+    redo: &mut Vec<Draft>,
+    next: Draft,
+) -> Result<(), NoMemory>
+    ensures now { OnOk result (current.new ≡ next) }
+    ensures undo { OnOk result (undo.new.items ≡ undo.old.items ++ current.old ∷ []) }
+    ensures redo { OnOk result (redo.new.items ≡ []) }
+    ensures err { OnErr result ((current.new ≡ current.old) × (undo.new.items ≡ undo.old.items) × (redo.new.items ≡ redo.old.items)) }
+{
+    undo.reserve(1)?;
+    let before = mem::replace(current, next);
+    undo.push(before)?;
+    redo.clear();
+    Ok(())
 }
 
 impl Shape for Session {
