@@ -1,6 +1,5 @@
 -- What a session's step is, from what the delete operator gives.
 use Rattle.std.proofs.Common.{◌≡◌, List, sym, ap, Result, Ok, Err}
-use Rattle.mesh_model.specs.Complex.{Complex}
 use Rattle.mesh_model.specs.Deleting.{without_verts}
 use Rattle.mesh_model.specs.declared.names.VertName.{VertName}
 use Rattle.mesh_model.specs.declared.refusal.Refusal.{Refusal}
@@ -12,7 +11,6 @@ use Rattle.mesh_model.specs.declared.slots.Context.TheVariants.{Verts}
 use Rattle.mesh_session.specs.Arguments.{named_verts}
 use Rattle.mesh_session.specs.Operators.{no_slots, deleted, applied}
 use Rattle.mesh_session.specs.State.{State, advanced, ran}
-use Rattle.mesh_session.specs.declared.reply.Reply.{Reply}
 use Rattle.mesh_session.specs.declared.reply.Reply.TheVariants.{Done, Refused}
 
 -- named vertices are deleted

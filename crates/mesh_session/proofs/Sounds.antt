@@ -1,9 +1,8 @@
 -- A session stays sound.
 use Rattle.std.proofs.Common.{◌≡◌, List, subst, sym, arith}
-use Rattle.std.specs.List.{All}
 use Rattle.std.proofs.lemmas.List.Elements.{All-push}
 use Rattle.mesh_model.specs.Complex.{Complex}
-use Rattle.mesh_model.specs.Valid.{IsValid, IsSound}
+use Rattle.mesh_model.specs.Valid.{IsSound}
 use Rattle.mesh_model.specs.Deleting.{without_verts}
 use Rattle.mesh_model.specs.declared.names.VertName.{VertName}
 use Rattle.mesh_model.proofs.Valids.{IsValid-without_verts, IsSimple-without_verts}

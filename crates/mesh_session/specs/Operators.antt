@@ -8,7 +8,6 @@ use Rattle.mesh_model.specs.declared.refusal.Refusal.{Refusal}
 use Rattle.mesh_model.specs.declared.slots.Slots.{Slots}
 use Rattle.mesh_model.specs.declared.slots.Op.{Op}
 use Rattle.mesh_model.specs.declared.slots.Op.TheVariants.{Delete}
-use Rattle.mesh_model.specs.declared.slots.Context.{Context}
 use Rattle.mesh_model.specs.declared.slots.Context.TheVariants.{Verts}
 use Rattle.mesh_session.specs.Arguments.{named_verts}
 
