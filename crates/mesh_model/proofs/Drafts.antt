@@ -27,6 +27,15 @@ use Rattle.mesh_model.specs.declared.records.FaceRec.{FaceRec}
 pub few-edge_between : (edges : List (Option EdgeRec)) (v w : VertName) → length (edge_between edges v w).0 ≤ length edges + 1
 few-edge_between edges v w = length-or_made edges v w (edge_joining edges v w)
 
+-- the sides of a ring make an edge each at most
+few-corners_along : (edges : List (Option EdgeRec)) (ss : List (VertName × VertName)) → length (corners_along edges ss).0 ≤ length edges + length ss
+few-corners_along edges [] = omega arith
+few-corners_along edges (s ∷ ss) = omega (arith, few-edge_between edges s.0 s.1, few-corners_along (edge_between edges s.0 s.1).0 ss)
+
+-- a ring makes no more edges than it has sides
+pub few-with_ring : (c : Complex) (vs : List VertName) → length (with_ring c vs).edges ≤ length c.edges + length vs
+few-with_ring c vs = omega (arith, few-corners_along c.edges (sides vs), length-sides vs)
+
 -- the vertices of some corners are there
 pub verts_there : (verts : List (Option VertRec)) (ks : List DraftCorner) → All (λ (k : DraftCorner). IsThere verts k.vert.0) ks → All (λ (v : VertName). IsThere verts v.0) (map (λ (k : DraftCorner). k.vert) ks)
 verts_there verts [] there = λ k d less. absurd (omega arith)

@@ -3,3 +3,4 @@ pub mod Rings
 pub mod Sides
 pub mod Valids
 pub mod Drafts
+pub mod Buffers

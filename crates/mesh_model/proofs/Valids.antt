@@ -1,5 +1,5 @@
 -- Each change keeps a complex valid and simple.
-use Rattle.std.proofs.Common.{◌≡◌, ◌≢◌, ℕ, zero, suc, ◌+◌, ◌<◌, ◌≤◌, Bool, true, false, not, cond, ◌&&◌, ◌||◌, eqb, List, [], ◌∷◌, ◌++◌, length, get_or, take, drop, refl, sym, ap, ◌∙◌, arith, Option, Some, None, inl, inr, true≢false}
+use Rattle.std.proofs.Common.{◌≡◌, ◌≢◌, ℕ, zero, suc, ◌+◌, ◌<◌, ◌≤◌, Bool, true, false, not, cond, ◌&&◌, ◌||◌, eqb, List, [], ◌∷◌, ◌++◌, length, get_or, take, drop, refl, sym, ap, ◌∙◌, arith, lit≤, Option, Some, None, inl, inr, true≢false}
 use Rattle.std.specs.List.{All, list_all, list_any, zip}
 use Rattle.std.proofs.lemmas.List.{length_push, length-map}
 use Rattle.std.proofs.lemmas.Bool.{eqb-true}
@@ -10,7 +10,7 @@ use Rattle.std.specs.Cmp.{nat_eq_equiv}
 use Rattle.std.specs.List.{position_from}
 use Rattle.std.proofs.lemmas.Iterator.Adapters.{position_from-zero}
 use Rattle.mesh_model.specs.Table.{at, IsThere, Each, passes, kept, kept_names, only_if}
-use Rattle.mesh_model.specs.Complex.{Complex, corners_of, corner_sum, verts_of}
+use Rattle.mesh_model.specs.Complex.{Complex, no_complex, corners_of, corner_sum, verts_of}
 use Rattle.mesh_model.specs.Incidence.{joins, edge_joining}
 use Rattle.mesh_model.specs.Making.{with_vert, with_ring, or_made, edge_between, sides, corners_along}
 use Rattle.mesh_model.specs.Deleting.{is_among, has_end_among, has_corner_among, without_verts}
@@ -31,6 +31,16 @@ first false b h = refl
 later : (a b : Bool) → not (a || b) ≡ true → not b ≡ true
 later true b h = absurd (true≢false (sym h))
 later false b h = h
+
+-- NOTHING THERE
+
+pub IsValid-no_complex : IsValid no_complex
+IsValid-no_complex = record {
+  linked = record { edges = λ n e there. absurd (cc); faces = λ n f there. absurd (cc) };
+  points = λ n r there. absurd (cc);
+  rings = λ n f there. absurd (cc);
+  limits = record { verts = lit≤ tt; edges = lit≤ tt; faces = lit≤ tt; corners = lit≤ tt };
+}
 
 -- WHAT STAYS WHEN TABLES GROW
 

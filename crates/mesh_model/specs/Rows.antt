@@ -5,7 +5,7 @@ use Rattle.std.specs.List.{fold}
 use Rattle.mesh_model.specs.Table.{least_from, live}
 use Rattle.mesh_model.specs.Complex.{Complex, no_complex, counters_of}
 use Rattle.mesh_model.specs.Incidence.{edges_at, corners_at_edge, corners_at_vert, is_loose, is_bare, edge_joining}
-use Rattle.mesh_model.specs.Naming.{rank, fresh}
+use Rattle.mesh_model.specs.Naming.{rank, fresh, is_rising}
 use Rattle.mesh_model.specs.Making.{with_vert, with_ring, sides, edge_between}
 use Rattle.mesh_model.specs.Deleting.{without_verts}
 use Rattle.mesh_model.specs.Valid.{is_on_grid, are_distinct}
@@ -96,3 +96,7 @@ Sides = (sides (vert 7 ∷ vert 8 ∷ vert 9 ∷ []) ≡ (vert 7, vert 8) ∷ (v
 -- the grid ends at a thousand million
 abbrev pub Grid : Type 0
 Grid = (is_on_grid (point (pos 1000000000) (negsuc 999999999) (pos 0)).point ≡ true) × (is_on_grid (point (pos 0) (pos 0) (pos 1000000001)).point ≡ false) × (is_on_grid (point (negsuc 1000000000) (pos 0) (pos 0)).point ≡ false)
+
+-- names that rise, that stand still and that fall
+abbrev pub Rising : Type 0
+Rising = (is_rising (2 ∷ 5 ∷ 9 ∷ []) ≡ true) × (is_rising (2 ∷ 5 ∷ 5 ∷ []) ≡ false) × (is_rising (2 ∷ 9 ∷ 5 ∷ []) ≡ false) × (is_rising [] ≡ true)

@@ -50,7 +50,8 @@ impl Model for Draft {
 impl Draft {
     /// The empty complex. Takes no memory.
     pub fn new(alloc: Global) -> Draft
-        ensures { result ≡ no_complex }
+        ensures empty { result ≡ no_complex }
+        ensures valid { IsValid result }
     {
         Draft {
             alloc,
@@ -65,7 +66,8 @@ impl Draft {
     /// The complex of a shape, in time proportional to its names and corners.
     pub fn copy_of<S: Shape>(alloc: Global, shape: &S) -> Result<Draft, NoMemory>
         requires { IsValid (S.complex shape.now) }
-        ensures { IfOk result (λ d. d ≡ S.complex shape.now) }
+        ensures same { IfOk result (λ d. d ≡ S.complex shape.now) }
+        ensures valid { IfOk result (λ d. IsValid d) }
     {
         let counters = shape.counters();
         let verts = copy::verts_of(alloc, shape, counters.verts)?;
@@ -126,6 +128,7 @@ impl Draft {
         ensures name { IfOk result (λ v. v.0 ≡ length self.old.verts) }
         ensures ok { OnOk result (self.new ≡ with_vert self.old (record { point = p })) }
         ensures err { OnErr result (self.new ≡ self.old) }
+        ensures valid { IsValid self.new }
     {
         let name = self.verts.len() as u32;
         self.verts.push(Some(VertRec { point: p }))?;
@@ -142,6 +145,7 @@ impl Draft {
         ensures name { IfOk result (λ e. e.0 ≡ (edge_between self.old.edges a b).1) }
         ensures ok { OnOk result (self.new ≡ record self.old { edges = (edge_between self.old.edges a b).0 }) }
         ensures err { OnErr result (self.new ≡ self.old) }
+        ensures valid { IsValid self.new }
     {
         self.used.widen(self.edges.len() + 1)?;
         let name = edge_in(&mut self.edges, a, b)?;
@@ -161,6 +165,7 @@ impl Draft {
         ensures name { IfOk result (λ f. f.0 ≡ length self.old.faces) }
         ensures ok { OnOk result (self.new ≡ with_ring self.old (map (λ k. k.vert) corners.now)) }
         ensures err { OnErr result (self.new ≡ self.old) }
+        ensures valid { IsValid self.new }
     {
         let name = self.faces.len() as u32;
         self.used.widen(self.edges.len() + corners.len())?;

@@ -1,6 +1,6 @@
 //! Laws of the definitions, and small models worked out. The checker proves each statement, and no call does anything.
 
-ghost use Rattle.mesh_model.specs.Rows.{SquareEdges, SquareCut, SquareLoose, SquareGone, FinEdge, FinCut, BowMiddle, BowCut, EdgeFound, Names, Sides, Grid};
+ghost use Rattle.mesh_model.specs.Rows.{SquareEdges, SquareCut, SquareLoose, SquareGone, FinEdge, FinCut, BowMiddle, BowCut, EdgeFound, Names, Rising, Sides, Grid};
 
 /// A square, and what deleting its vertices leaves.
 pub fn square()
@@ -26,6 +26,7 @@ pub fn bow()
 pub fn words()
     ensures found { EdgeFound }
     ensures names { Names }
+    ensures rising { Rising }
     ensures sides { Sides }
     ensures grid { Grid }
 {}

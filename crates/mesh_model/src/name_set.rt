@@ -1,4 +1,4 @@
-ghost use Rattle.std.specs.Prelude.{◌≡◌, ◌<◌, ◌≤◌, ℕ, [], true, length, slice_set, OnOk};
+ghost use Rattle.std.specs.Prelude.{◌≡◌, ◌<◌, ℕ, [], true, length, max, slice_set, OnOk, OnErr};
 ghost use Rattle.mesh_model.specs.NameSet.{is_in};
 
 use crate::NoMemory;
@@ -30,11 +30,11 @@ impl NameSet {
     }
 
     /// Makes room for the names below `width`, in time proportional to the flags that are added.
-    /// The members stay, whatever the answer.
+    /// The members stay, and after `NoMemory` the set is as before.
     pub fn widen(&mut self, width: usize) -> Result<(), NoMemory>
         ensures members { (n : ℕ) → is_in self.new n ≡ is_in self.old n }
-        ensures wide { OnOk result (width ≤ length self.new) }
-        ensures wider { length self.old ≤ length self.new }
+        ensures wide { OnOk result (length self.new ≡ max (length self.old) width) }
+        ensures err { OnErr result (self.new ≡ self.old) }
     {
         if self.flags.len() < width {
             self.flags.resize(width, false)?;

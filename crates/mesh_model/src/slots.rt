@@ -1,5 +1,9 @@
 //! Commands with their arguments, and the slots that they give back.
 
+ghost use Rattle.std.specs.Prelude.{◌≡◌, IfOk, IsTrue};
+ghost use Rattle.mesh_model.specs.Naming.{are_rising};
+
+use crate::NoMemory;
 use crate::names::{EdgeName, Elem, FaceName, VertName};
 use crate::sequence::Sequence;
 
@@ -47,10 +51,37 @@ pub struct Buffer {
     pub verts: Sequence<VertName>,
     pub edges: Sequence<EdgeName>,
     pub faces: Sequence<FaceName>,
+    pub ghost rising: { IsTrue (are_rising verts edges faces) },
+}
+
+impl Buffer {
+    /// An equal buffer, in time proportional to its names.
+    pub fn copy(&self) -> Result<Buffer, NoMemory>
+        ensures { IfOk result (λ b. b ≡ self.now) }
+    {
+        let verts = self.verts.copy()?;
+        let edges = self.edges.copy()?;
+        let faces = self.faces.copy()?;
+        Ok(Buffer {
+            verts,
+            edges,
+            faces,
+        })
+    }
 }
 
 /// What a done command gives back.
 #[derive(Debug, Drop)]
 pub struct Slots {
     pub geom: Buffer,
+}
+
+impl Slots {
+    /// Equal slots, in time proportional to their names.
+    pub fn copy(&self) -> Result<Slots, NoMemory>
+        ensures { IfOk result (λ s. s ≡ self.now) }
+    {
+        let geom = self.geom.copy()?;
+        Ok(Slots { geom })
+    }
 }

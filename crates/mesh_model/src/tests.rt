@@ -7,6 +7,7 @@ ghost use Rattle.mesh_model.specs.Making.{with_vert};
 ghost use Rattle.mesh_model.specs.Rows.{square_points};
 ghost use Rattle.mesh_model.specs.Valid.{is_on_grid};
 
+use crate::slots::{Buffer, Slots};
 use crate::{
     Draft, DraftCorner, EdgeName, Elem, FaceName, Kind, NameSet, NoMemory, Point, Sequence, Shape,
     VertName, Why,
@@ -81,6 +82,25 @@ fn without(draft: &Draft, v: VertName) -> Result<Draft, NoMemory> {
 fn copied(alloc: Global, draft: &Draft) -> Result<Draft, NoMemory> {
     let copy = draft.copy()?;
     Draft::copy_of(alloc, &copy)
+}
+
+// Slots with two vertices, two edges and a face.
+fn slots(alloc: Global) -> Result<Slots, NoMemory> {
+    let mut verts = Sequence::new(alloc);
+    verts.push(VertName(2))?;
+    verts.push(VertName(5))?;
+    let mut edges = Sequence::new(alloc);
+    edges.push(EdgeName(0))?;
+    edges.push(EdgeName(7))?;
+    let mut faces = Sequence::new(alloc);
+    faces.push(FaceName(3))?;
+    Ok(Slots {
+        geom: Buffer {
+            verts,
+            edges,
+            faces,
+        },
+    })
 }
 
 fn point<S: Shape>(shape: &S, v: VertName) -> Option<Point> {
@@ -230,6 +250,25 @@ fn lists(rt: HostRuntime) -> Result<(), Fail> {
     assert_eq!(rt; *copy.get(1), VertName(5));
     assert_eq!(rt; copy.as_slice(), [VertName(7), VertName(5)].as_slice());
     assert_eq!(rt; Sequence::from_vec(names.into_vec()).len(), 2);
+    Ok(())
+}
+
+#[test]
+fn slots_are_copied(rt: HostRuntime) -> Result<(), Fail> {
+    let slots = slots(rt.alloc())?;
+    let copy = slots.copy()?;
+    let again = copy.geom.copy()?;
+    for geom in [&copy.geom, &again] {
+        assert_eq!(rt;
+            geom.verts.as_slice(),
+            [VertName(2), VertName(5)].as_slice()
+        );
+        assert_eq!(rt;
+            geom.edges.as_slice(),
+            [EdgeName(0), EdgeName(7)].as_slice()
+        );
+        assert_eq!(rt; geom.faces.as_slice(), [FaceName(3)].as_slice());
+    }
     Ok(())
 }
 

@@ -1,8 +1,5 @@
 -- Commands on the square, worked out.
-use Rattle.std.specs.Prelude.{◌≡◌, ℕ, List, [], ◌∷◌, length, map}
-use Rattle.std.specs.declared.option.Option.TheVariants.{None, Some}
-use Rattle.mesh_model.specs.Complex.{Complex, no_complex, counters_of}
-use Rattle.mesh_model.specs.Table.{live}
+use Rattle.std.specs.Prelude.{◌≡◌, ℕ, List, [], ◌∷◌}
 use Rattle.mesh_model.specs.Deleting.{without_verts}
 use Rattle.mesh_model.specs.Rows.{square, vert}
 use Rattle.mesh_model.specs.declared.names.Elem.TheVariants.{Vert, Edge}
@@ -15,7 +12,7 @@ use Rattle.mesh_model.specs.declared.slots.Context.TheVariants.{Verts}
 use Rattle.mesh_model.specs.declared.slots.What.TheVariants.{Run}
 use Rattle.mesh_model.specs.declared.slots.Command.{Command}
 use Rattle.mesh_session.specs.Operators.{no_slots}
-use Rattle.mesh_session.specs.State.{State, fresh, loaded, step, steps}
+use Rattle.mesh_session.specs.State.{fresh, loaded, step, steps}
 use Rattle.mesh_session.specs.declared.reply.Reply.TheVariants.{Done, Refused}
 
 -- a command on a line that deletes elements with the context of vertices

@@ -32,10 +32,14 @@ pub record IsSoundState (s : State) : Type 0 where
   pub undo : All IsSound s.undo
   pub redo : All IsSound s.redo
 
--- the reply to an operator's result, and the state then: refused, it is the same; done, undo goes back to the complex before, and nothing can be redone
+-- the next complex is the one now, undo goes back to the one before, and nothing can be redone
+abbrev pub advanced : State → Complex → State
+advanced s next = record { now = next; undo = s.undo ++ s.now ∷ []; redo = [] }
+
+-- the reply to an operator's result, and the state then: refused, it is the same; done, it has gone on to the operator's complex
 abbrev pub ran : State → Result (Slots × Complex) Refusal → Reply × State
 ran s (Err r) = (Refused r, s)
-ran s (Ok done) = (Done done.0, record { now = done.1; undo = s.undo ++ s.now ∷ []; redo = [] })
+ran s (Ok done) = (Done done.0, advanced s done.1)
 
 -- the reply to what a command does, and the state then
 abbrev pub acted : State → What → Reply × State

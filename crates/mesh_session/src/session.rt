@@ -2,9 +2,9 @@ ghost use Rattle.std.specs.Prelude.{◌≡◌, [], ◌∷◌, ◌++◌, OnErr, O
 ghost use Rattle.std.specs.List.{All};
 ghost use Rattle.mesh_model.specs.Table.{IsThere};
 ghost use Rattle.mesh_model.specs.Deleting.{without_verts};
-ghost use Rattle.mesh_model.specs.Valid.{IsSimple};
+ghost use Rattle.mesh_model.specs.Valid.{IsSimple, IsSound};
 ghost use Rattle.mesh_session.specs.Operators.{applied};
-ghost use Rattle.mesh_session.specs.State.{fresh, loaded, IsSoundState, ran, step};
+ghost use Rattle.mesh_session.specs.State.{fresh, loaded, IsSoundState, advanced, ran, step};
 
 use crate::arguments::named_verts;
 use crate::reply::{Reply, no_slots};
@@ -96,18 +96,25 @@ impl Session {
         }
     }
 
-    // Deletes vertices that are there, and keeps the complex before for undo.
+    // Deletes vertices that are there.
     fn delete_verts(&mut self, verts: &[VertName]) -> Result<(), NoMemory>
         requires { All (λ v. IsThere self.old.now.verts v.0) verts.now }
-        ensures ok { OnOk result (self.new ≡ record { now = without_verts self.old.now verts.now; undo = self.old.undo ++ self.old.now ∷ []; redo = [] }) }
+        ensures ok { OnOk result (self.new ≡ advanced self.old (without_verts self.old.now verts.now)) }
         ensures err { OnErr result (self.new ≡ self.old) }
         ensures sound { IsSoundState self.new }
     {
         let next = self.current.without_verts(verts)?;
-        self.undo.reserve(1)?;
-        let before = mem::replace(&mut self.current, next);
-        self.undo.push(before)?;
-        self.redo.clear();
+        self.advance(next)
+    }
+
+    // Goes on to a sound complex, keeps the one before for undo, and leaves nothing to redo.
+    fn advance(&mut self, next: Draft) -> Result<(), NoMemory>
+        requires { IsSound next }
+        ensures ok { OnOk result (self.new ≡ advanced self.old next) }
+        ensures err { OnErr result (self.new ≡ self.old) }
+        ensures sound { IsSoundState self.new }
+    {
+        put_next(&mut self.current, &mut self.undo, &mut self.redo, next)?;
         Ok(())
     }
 
@@ -124,6 +131,25 @@ impl Session {
     {
         self.redo.len()
     }
+}
+
+// Puts a complex in the place of the current one, which goes to the end of the undo list, and empties the redo list.
+fn put_next(
+    current: &mut Draft,
+    undo: &mut Vec<Draft>,
+    redo: &mut Vec<Draft>,
+    next: Draft,
+) -> Result<(), NoMemory>
+    ensures now { OnOk result (current.new ≡ next) }
+    ensures undo { OnOk result (undo.new.items ≡ undo.old.items ++ current.old ∷ []) }
+    ensures redo { OnOk result (redo.new.items ≡ []) }
+    ensures err { OnErr result ((current.new ≡ current.old) × (undo.new.items ≡ undo.old.items) × (redo.new.items ≡ redo.old.items)) }
+{
+    undo.reserve(1)?;
+    let before = mem::replace(current, next);
+    undo.push(before)?;
+    redo.clear();
+    Ok(())
 }
 
 impl Shape for Session {

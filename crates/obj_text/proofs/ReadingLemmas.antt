@@ -1,7 +1,7 @@
 -- Lemmas on reading a model.
-use Rattle.std.proofs.Common.{◌≡◌, ℕ, ◌+◌, ◌-◌, ◌<◌, ◌≤◌, Bool, true, false, not, cond, ltb, nat_lt, nat_le, ◌&&◌, List, [], ◌∷◌, ◌++◌, length, get_or, map, take, refl, sym, ap, subst, ◌∙◌, arith, lit≤, Option, Some, None, is_some, Result, Ok, Err}
-use Rattle.std.specs.List.{All, list_all, fold, position, position_or_len, enumerate_from}
-use Rattle.std.proofs.lemmas.List.{take_more, take_all, length-map}
+use Rattle.std.proofs.Common.{◌≡◌, ℕ, ◌+◌, ◌-◌, ◌<◌, ◌≤◌, Bool, true, false, not, cond, ltb, nat_lt, nat_le, ◌&&◌, List, [], ◌∷◌, length, get_or, map, take, refl, sym, ap, subst, ◌∙◌, arith, Option, Some, None, is_some, Ok, Err}
+use Rattle.std.specs.List.{All, list_all, fold, position_or_len, enumerate_from}
+use Rattle.std.proofs.lemmas.List.{take_more, length-map}
 use Rattle.std.proofs.lemmas.List.FromFn.{length-enumerate_from, get_or-enumerate_from}
 use Rattle.std.proofs.lemmas.List.Sums.{position_or_len_is, fold-append}
 use Rattle.std.proofs.lemmas.List.Elements.{All-cons}
@@ -9,22 +9,19 @@ use Rattle.std.proofs.lemmas.Bool.Decides.{nat_tests}
 use borrow.Author.Count.{below_more}
 use Rattle.mesh_model.specs.Table.{at, IsThere, passes}
 use Rattle.mesh_model.specs.Complex.{Complex, no_complex, corner_sum}
-use Rattle.mesh_model.specs.Making.{with_ring, corners_along, edge_between, sides}
+use Rattle.mesh_model.specs.Making.{with_ring}
 use Rattle.mesh_model.specs.Valid.{are_distinct, is_on_grid, IsValid, IsSimple}
-use Rattle.mesh_model.proofs.Rings.{length-sides}
-use Rattle.mesh_model.proofs.Drafts.{few-edge_between, verts_there}
+use Rattle.mesh_model.proofs.Drafts.{few-with_ring, verts_there}
 use Rattle.mesh_model.proofs.Tables.{there-below}
 use Rattle.mesh_model.proofs.Valids.{IsSimple-with_vert, IsSimple-with_ring, IsValid-with_vert, IsValid-with_ring}
 use Rattle.mesh_model.specs.declared.names.VertName.{VertName}
 use Rattle.mesh_model.specs.declared.records.VertRec.{VertRec}
-use Rattle.mesh_model.specs.declared.records.EdgeRec.{EdgeRec}
 use Rattle.mesh_model.specs.declared.draft.DraftCorner.{DraftCorner}
 use Rattle.text_words.specs.Text.{words}
 use Rattle.obj_text.specs.Obj.{vert_at, is_read, is_ring, has_room, fits, with_item, with_spelled, spelled, complex_of, is_known, first_unknown, judged, read_lines}
 use Rattle.obj_text.specs.Reading.{corner_at}
 use Rattle.obj_text.specs.declared.item.Item.{Item}
 use Rattle.obj_text.specs.declared.item.Item.TheVariants.{Nothing, Vertex, Ring}
-use Rattle.obj_text.specs.declared.obj_fault.ObjRefusal.{ObjRefusal}
 use Rattle.obj_text.specs.declared.obj_fault.ObjWhy.TheVariants.{NotYet}
 
 -- SIMPLE
@@ -156,14 +153,6 @@ stands_on c indices h =
       corners = le_from (corner_sum c.faces + n) 4194304 rest.1;
     }
 
-few_corners_along : (edges : List (Option EdgeRec)) (ss : List (VertName × VertName)) → length (corners_along edges ss).0 ≤ length edges + length ss
-few_corners_along edges [] = omega arith
-few_corners_along edges (s ∷ ss) = omega (arith, few-edge_between edges s.0 s.1, few_corners_along (edge_between edges s.0 s.1).0 ss)
-
--- a ring makes no more edges than it has sides
-pub few_with_ring : (c : Complex) (vs : List VertName) → length (with_ring c vs).edges ≤ length c.edges + length vs
-few_with_ring c vs = omega (arith, few_corners_along c.edges (sides vs), length-sides vs)
-
 -- the vertices of the corners of indices
 pub verts_corner_at : (indices : List ℕ) → map (λ (k : DraftCorner). k.vert) (map corner_at indices) ≡ map vert_at indices
 verts_corner_at [] = refl
@@ -189,25 +178,13 @@ read_within verts (index ∷ indices) n enough h =
 
 -- VALID
 
-valid-no_complex : IsValid no_complex
-valid-no_complex = record {
-  linked = record { edges = λ n e there. absurd (cc); faces = λ n f there. absurd (cc) };
-  points = λ n r there. absurd (cc);
-  rings = λ n f there. absurd (cc);
-  limits = record { verts = lit≤ tt; edges = lit≤ tt; faces = lit≤ tt; corners = lit≤ tt };
-}
-
--- what begins a draft is valid
-pub valid-empty : (c : Complex) → c ≡ no_complex → IsValid c
-valid-empty c is = let P : Complex → Type 0 = IsValid in subst P (sym is) valid-no_complex
-
 valid-with_ring : (c : Complex) (indices : List ℕ) → StandsOn c indices → IsValid c → IsValid (with_ring c (map vert_at indices))
 valid-with_ring c indices s h =
     let vs = map vert_at indices in
     let long : length vs ≡ length indices = length-map indices vert_at in
     let P : List VertName → Type 0 = λ us. All (λ (v : VertName). IsThere c.verts v.0) us in
     let there : P vs = subst P (verts_corner_at indices) (verts_there c.verts (map corner_at indices) (corners_there c.verts indices s.read)) in
-    let few : length (with_ring c vs).edges ≤ length c.edges + length vs = few_with_ring c vs in
+    let few : length (with_ring c vs).edges ≤ length c.edges + length vs = few-with_ring c vs in
     IsValid-with_ring c vs s.faces (omega (arith, s.edges)) (omega (arith, s.corners)) (omega (arith, s.least)) (omega (arith, s.most)) s.distinct there h
 
 valid-with_item : (c : Complex) (item : Item) → fits c item ≡ true → IsValid c → IsValid (with_item c item)

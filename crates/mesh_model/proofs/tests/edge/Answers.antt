@@ -1,4 +1,4 @@
-use Rattle.std.proofs.Common.{◌≡◌, ℕ, length, ap, arith}
+use Rattle.std.proofs.Common.{◌≡◌, length, ap, arith}
 use Rattle.mesh_model.specs.declared.records.Counters.{Counters}
 use Rattle.mesh_model.proofs.Drafts.{few-edge_between}
 use Rattle.mesh_model.proofs.tests.edge.Goals as goal

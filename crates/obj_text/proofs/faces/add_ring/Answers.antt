@@ -1,17 +1,18 @@
-use Rattle.std.proofs.Common.{◌≡◌, ◌∙◌, sym, ap, map, length, arith}
+use Rattle.std.proofs.Common.{◌≡◌, ◌∙◌, sym, ap, map, arith}
 use Rattle.std.proofs.lemmas.List.{length-map}
 use Rattle.mesh_model.specs.Making.{with_ring}
 use Rattle.mesh_model.specs.declared.draft.DraftCorner.{DraftCorner}
 use Rattle.obj_text.specs.Obj.{vert_at}
 use Rattle.obj_text.specs.Reading.{corner_at}
-use Rattle.obj_text.proofs.ReadingLemmas.{stands_on, few_with_ring, verts_corner_at, corners_there}
+use Rattle.mesh_model.proofs.Drafts.{few-with_ring}
+use Rattle.obj_text.proofs.ReadingLemmas.{stands_on, verts_corner_at, corners_there}
 use Rattle.obj_text.proofs.faces.add_ring.Goals as goal
 
 pub add_face-requires-clause-edges : goal.add_face-requires-clause-edges
 add_face-requires-clause-edges c =
     let fits = stands_on c.args.draft.now c.args.indices.now (sym c.if-not-is_ring.ensures.same) in
     let verts : map (λ (k : DraftCorner). k.vert) c.deref.result.now ≡ map vert_at c.args.indices.now = ap (map (λ (k : DraftCorner). k.vert)) (c.deref.ensures.value ∙ c.in_ok-corners.ensures) ∙ verts_corner_at c.args.indices.now in
-    rw verts (omega (arith, few_with_ring c.args.draft.now (map vert_at c.args.indices.now), length-map c.args.indices.now vert_at, fits.edges))
+    rw verts (omega (arith, few-with_ring c.args.draft.now (map vert_at c.args.indices.now), length-map c.args.indices.now vert_at, fits.edges))
 
 pub add_face-requires-clause-distinct : goal.add_face-requires-clause-distinct
 add_face-requires-clause-distinct c =

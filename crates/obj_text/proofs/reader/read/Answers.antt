@@ -1,22 +1,22 @@
-use Rattle.std.proofs.Common.{◌≡◌, ◌<◌, ◌∙◌, ℕ, List, [], sym, ap, subst, map, length, get_or, take, arith, Some, Ok}
+use Rattle.std.proofs.Common.{◌≡◌, ◌<◌, ◌∙◌, [], sym, ap, subst, map, length, take, arith, Some, Ok}
 use Rattle.std.proofs.lemmas.List.{length-map, get_or-map, take_all}
 use Rattle.mesh_model.specs.Complex.{Complex}
 use Rattle.mesh_model.specs.Valid.{IsSimple}
 use Rattle.text_words.specs.Text.{lines}
 use Rattle.text_words.proofs.TextLemmas.{length-lines}
 use Rattle.obj_text.specs.Obj.{read_lines, complex_of}
-use Rattle.obj_text.proofs.ReadingLemmas.{known_none, known_more, line_known, draft_more, read_lines-all, read_lines-refused, simple-complex_of, valid-empty, valid_next}
+use Rattle.obj_text.proofs.ReadingLemmas.{known_none, known_more, line_known, draft_more, read_lines-all, read_lines-refused, simple-complex_of, valid_next}
 use Rattle.obj_text.proofs.reader.read.Goals as goal
 
 pub loop-i-init : goal.loop-i-init
 loop-i-init c =
     let same : map (λ x. x.now) c.deref-line-items.result.now ≡ lines c.args.text.now = rw c.deref-line-items.ensures.value c.in_ok-lines.ensures in
     let long : length c.deref-line-items.result.now ≡ length (lines c.args.text.now) = sym (length-map c.deref-line-items.result.now (λ x. x.now)) ∙ ap length same in
-    let bare : length c.new-draft.result.verts ≡ 0 = ap (λ (d : Complex). length d.verts) c.new-draft.ensures in
+    let bare : length c.new-draft.result.verts ≡ 0 = ap (λ (d : Complex). length d.verts) c.new-draft.ensures.empty in
     let empty : length c.new-marks.result.items ≡ 0 = ap length c.new-marks.ensures.items in
     record {
-      draft = c.new-draft.ensures;
-      valid = valid-empty _ c.new-draft.ensures;
+      draft = c.new-draft.ensures.empty;
+      valid = c.new-draft.ensures.valid;
       known = known_none _ _;
       marks = record { some = omega arith; enough = omega arith; below = λ k d less. absurd (omega arith) };
       few = omega (arith, length-lines c.args.text.now);

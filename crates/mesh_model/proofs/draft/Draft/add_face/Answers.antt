@@ -17,7 +17,7 @@ insert_edges-requires c =
     let long : length vs ≡ length c.args.corners.now = length-map c.args.corners.now (λ (k : DraftCorner). k.vert) in
     let ring_is : c.in_ok-ring.ring ≡ (corners_along old.edges.items (sides vs)).1 = ap (λ p. p.1) c.in_ok-ring.ensures.ok in
     let edges_is : c.ring_in.new.edges.items ≡ (corners_along old.edges.items (sides vs)).0 = ap (λ p. p.0) c.in_ok-ring.ensures.ok in
-    let wide : c.len.result + length c.args.corners.now ≤ length c.widen.new.self = c.in_ok-widen.ensures.wide in
+    let wide : c.len.result + length c.args.corners.now ≤ length c.widen.new.self = omega (arith, c.in_ok-widen.ensures.wide) in
     let few : length c.ring_in.new.edges.items ≤ length old.edges.items + length c.args.corners.now = c.in_ok-ring.ensures.few in
     let below = ring_below before vs (rw long c.requires.least) c.requires.distinct (verts_there old.verts.items c.args.corners.now (rw (← c.self.view_is) at c.requires.there)) in
     let all : All (λ (k : CornerRec). k.edge.0 < length c.widen.new.self) (corners_along old.edges.items (sides vs)).1 = λ k d less. let under = rw (← edges_is) at (below k d less) in omega arith in
@@ -31,7 +31,7 @@ invariant_of-self-2 c =
     let long : length vs ≡ length c.args.corners.now = length-map c.args.corners.now (λ (k : DraftCorner). k.vert) in
     let ring_is : c.in_ok-ring.ring ≡ (corners_along old.edges.items (sides vs)).1 = ap (λ p. p.1) c.in_ok-ring.ensures.ok in
     let edges_is : c.ring_in.new.edges.items ≡ (corners_along old.edges.items (sides vs)).0 = ap (λ p. p.0) c.in_ok-ring.ensures.ok in
-    let wide : c.len.result + length c.args.corners.now ≤ length c.widen.new.self = c.in_ok-widen.ensures.wide in
+    let wide : c.len.result + length c.args.corners.now ≤ length c.widen.new.self = omega (arith, c.in_ok-widen.ensures.wide) in
     let few : length c.ring_in.new.edges.items ≤ length old.edges.items + length c.args.corners.now = c.in_ok-ring.ensures.few in
     let room : length (corners_along old.edges.items (sides vs)).0 ≤ length c.insert_edges.new.set = rw (← edges_is) (omega (arith, c.insert_edges.ensures.wide)) in
     let kept = AreTables-with_ring before old.used c.widen.new.self c.insert_edges.new.set old.corners vs
@@ -39,3 +39,6 @@ invariant_of-self-2 c =
     (rw long c.requires.least) (rw long c.requires.most) c.requires.distinct (verts_there old.verts.items c.args.corners.now (rw (← c.self.view_is) at c.requires.there))
     c.in_ok-widen.ensures.members (rw (c.as_slice.ensures, ring_is) at c.insert_edges.ensures.members) room c.self.invariant in
     rw (c.in_ok-push.ensures.items, c.in_ok-reserve.ensures.items, ring_is, edges_is, ← long) kept
+
+pub returns-clause-valid : goal.returns-clause-valid
+returns-clause-valid c = (invariant_of-self-2 c).valid

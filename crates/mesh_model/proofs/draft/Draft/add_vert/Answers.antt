@@ -10,3 +10,6 @@ invariant_of-self-2 c =
       wide = c.self.invariant.wide;
       corners = c.self.invariant.corners;
     }
+
+pub returns-clause-valid : goal.returns-clause-valid
+returns-clause-valid c = (invariant_of-self-2 c).valid
