@@ -25,7 +25,9 @@ CausesStop (Err (Refused _)) old new = KeepsCounts old new
 CausesStop (Err Failed) old new = Rose old.in_faults new.in_faults × (new.out_faults ≡ old.out_faults)
 CausesStop (Err NoMemory) old new = KeepsCounts old new
 
--- the files were asked for; or, where nothing is given, the first so many of them
+-- the files were asked for where they were judged, and else the first so many of them
 abbrev pub AsksBefore : {T R : Type 0} → Result T (Stop R) → List Start → Told → Told → Type 0
 AsksBefore (Ok _) starts old new = new.started ≡ old.started ++ starts
-AsksBefore (Err _) starts old new = (n : ℕ) × (new.started ≡ old.started ++ take n starts)
+AsksBefore (Err (Refused _)) starts old new = new.started ≡ old.started ++ starts
+AsksBefore (Err Failed) starts old new = (n : ℕ) × (new.started ≡ old.started ++ take n starts)
+AsksBefore (Err NoMemory) starts old new = (n : ℕ) × (new.started ≡ old.started ++ take n starts)

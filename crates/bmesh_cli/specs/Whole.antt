@@ -27,7 +27,7 @@ CausesOut (Ok _) old new = KeepsCounts old new
 CausesOut (Err Failed) old new = Rose old.out_faults new.out_faults × (new.in_faults ≡ old.in_faults)
 CausesOut (Err NoMemory) old new = KeepsCounts old new
 
--- the file was asked for, or there was no memory and nothing or the file was asked for
+-- the file was asked for, or there was no memory and the file was asked for or not
 abbrev pub GainsStart : {T : Type 0} → Result T WorldFault → Told → Told → List ℕ → Purpose → Type 0
 GainsStart (Ok _) old new name purpose = new.started ≡ (asked old name purpose).started
 GainsStart (Err Failed) old new name purpose = new.started ≡ (asked old name purpose).started

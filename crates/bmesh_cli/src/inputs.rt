@@ -1,12 +1,12 @@
 //! The model and the script, read and judged.
 
-ghost use Rattle.std.specs.Prelude.{◌≡◌, ℕ, Some, IfOk};
+ghost use Rattle.std.specs.Prelude.{◌≡◌, ℕ, true, Some, IfOk};
 ghost use Rattle.mesh_model.specs.Valid.{IsSimple};
 ghost use Rattle.obj_text.specs.Obj.{read_text};
 ghost use Rattle.script_text.specs.Script.{script_of};
 ghost use Rattle.bmesh_cli.specs.Files.{Files};
 ghost use Rattle.bmesh_cli.specs.Job.{is_grid, is_tour, model_starts, script_starts};
-ghost use Rattle.bmesh_cli.specs.Run.{model_of, script_named};
+ghost use Rattle.bmesh_cli.specs.Run.{grid_refusal, model_of, script_named};
 ghost use Rattle.bmesh_cli.specs.Stops.{Judges, CausesStop, AsksBefore};
 ghost use Rattle.bmesh_cli.specs.Whole.{OnlyReads};
 
@@ -31,6 +31,7 @@ pub fn read_model<W: World>(
     name: &str,
 ) -> Result<Draft, Stop<ObjRefusal>>
     ensures judged { (files : Files) → (W.told world.old).files ≡ Some files → Judges result (model_of name.now files) }
+    ensures grid { is_grid name.now ≡ true → result ≡ Err (Stop.Refused grid_refusal) }
     ensures simple { IfOk result (λ d. IsSimple d) }
     ensures only { OnlyReads (W.told world.old) (W.told world.new) }
     ensures asked { AsksBefore result (model_starts name.now) (W.told world.old) (W.told world.new) }
