@@ -7,3 +7,4 @@ pub mod Stepping
 pub mod Running
 pub mod Completing
 pub mod Asking
+pub mod Left

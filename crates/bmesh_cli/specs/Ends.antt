@@ -1,5 +1,5 @@
 -- What stands after a run, whatever its status.
-use Rattle.std.specs.Prelude.{ℕ, ◌≡◌, ◌⊎◌, ◌++◌, Bool, true, false, List, [], take, Result, Ok}
+use Rattle.std.specs.Prelude.{ℕ, ◌≡◌, ◌⊎◌, ◌++◌, Bool, true, false, List, [], take, drop, Result, Ok}
 use Rattle.std.specs.Option.{option_map}
 use Rattle.std.specs.declared.option.Option.{Option}
 use Rattle.std.specs.declared.option.Option.TheVariants.{None, Some}
@@ -10,11 +10,11 @@ use Rattle.obj_text.specs.Causes.{Rose}
 use Rattle.obj_text.specs.declared.obj_fault.ObjRefusal.{ObjRefusal}
 use Rattle.script_text.specs.declared.commands.Script.{Script}
 use Rattle.script_text.specs.declared.fault.ScriptRefusal.{ScriptRefusal}
-use Rattle.bmesh_cli.specs.Files.{Files, put}
+use Rattle.bmesh_cli.specs.Files.{Files, bytes_of, put}
 use Rattle.bmesh_cli.specs.Told.{Told}
 use Rattle.bmesh_cli.specs.Whole.{KeepsCounts}
-use Rattle.bmesh_cli.specs.Job.{Job, is_grid, model_starts, script_starts, out_starts}
-use Rattle.bmesh_cli.specs.Run.{Outcome, model_of, script_named, grid_refusal, usage_line, model_line, script_line}
+use Rattle.bmesh_cli.specs.Job.{Job, is_grid, is_tour, model_starts, script_starts, out_starts}
+use Rattle.bmesh_cli.specs.Run.{Outcome, model_of, script_named, grid_refusal, read_most, usage_line, model_line, script_line}
 use Rattle.bmesh_cli.specs.declared.start.Start.{Start}
 use Rattle.bmesh_cli.specs.declared.status.Status.{Status}
 use Rattle.bmesh_cli.specs.declared.status.Status.TheVariants.{Done, SomeRefused, Usage, ModelRefused, ScriptRefused, InFault, OutFault, NoMemory}
@@ -136,6 +136,26 @@ EndsBy model script out NoMemory final old new = AsksFor (model ++ (script ++ ou
 abbrev pub EndsRunBy : Option Job → Status → State → Told → Told → Type 0
 EndsRunBy None status final old new = EndsBy [] [] [] status final old new
 EndsRunBy (Some job) status final old new = EndsBy (model_starts job.model) (script_starts job.script) (out_starts job.out) status final old new
+
+-- all but the first bytes of a file, as many as are read at most, are left to read
+abbrev pub IsRead : List ℕ → Files → Told → Type 0
+IsRead name files t = t.rest ≡ Some (drop read_most (bytes_of name files))
+
+-- after each answer, what is left to read of the input that was read last, if one was
+abbrev pub ReadsBy : List ℕ → List ℕ → Files → Status → Told → Type 0
+ReadsBy model script files Done new = is_tour script ≡ false → IsRead script files new
+ReadsBy model script files SomeRefused new = is_tour script ≡ false → IsRead script files new
+ReadsBy model script files Usage new = Unit {0}
+ReadsBy model script files (ModelRefused r) new = is_grid model ≡ false → IsRead model files new
+ReadsBy model script files (ScriptRefused r) new = is_tour script ≡ false → IsRead script files new
+ReadsBy model script files InFault new = Unit {0}
+ReadsBy model script files OutFault new = Unit {0}
+ReadsBy model script files NoMemory new = Unit {0}
+
+-- the same for the words of a command line
+abbrev pub ReadsRunBy : Option Job → Files → Status → Told → Type 0
+ReadsRunBy None files status new = Unit {0}
+ReadsRunBy (Some job) files status new = ReadsBy job.model job.script files status new
 
 -- the state after the first so many commands of a script on a complex
 abbrev pub IsOnTheWay : Complex → Script → State → Type 0

@@ -37,6 +37,10 @@ model_of name files = if is_grid name then Err grid_refusal else read_text 0 (by
 abbrev pub script_named : List ℕ → Files → Result Script ScriptRefusal
 script_named name files = if is_tour name then Err (record { line = 0; why = script_why.NotYet }) else script_of (bytes_of name files)
 
+-- how many bytes of an input are read at most: one past the limit
+abbrev pub read_most : ℕ
+read_most = 65537
+
 -- the line for words that are not accepted
 abbrev pub usage_line : List ℕ
 usage_line = codes "usage: bmesh MODEL SCRIPT OUT [--scale N]\n"

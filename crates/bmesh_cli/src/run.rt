@@ -7,7 +7,7 @@ ghost use Rattle.mesh_session.specs.State.{fresh, IsSoundState};
 ghost use Rattle.bmesh_cli.specs.Files.{Files};
 ghost use Rattle.bmesh_cli.specs.Job.{job_of, script_starts, out_starts, model_starts, starts_of, out_of};
 ghost use Rattle.bmesh_cli.specs.Run.{model_of, script_named, model_line, script_line, refuses, concludes, delivers, with_script, with_model, usage_line, outcome, due_by_script, due_by_model, due};
-ghost use Rattle.bmesh_cli.specs.Ends.{is_answer, is_delivered, is_past_model, is_past_script, Ends, LeavesAll, Caused, AsksFor, EndsBy, EndsRunBy, IsOnTheWay, IsPartOf, IsPartOfRun, IsRefusal, RefusesWords, Completes};
+ghost use Rattle.bmesh_cli.specs.Ends.{is_answer, is_delivered, is_past_model, is_past_script, Ends, LeavesAll, Caused, AsksFor, EndsBy, EndsRunBy, ReadsBy, ReadsRunBy, IsOnTheWay, IsPartOf, IsPartOfRun, IsRefusal, RefusesWords, Completes};
 ghost use Rattle.bmesh_cli.specs.Report.{report, is_refused};
 ghost use Rattle.bmesh_cli.specs.Whole.{PrintsPart, OnlyPrints};
 ghost use Rattle.obj_text.specs.Told.{with_after};
@@ -57,6 +57,7 @@ pub fn run<W: World>(
     ensures due { (files : Files) → (W.told world.old).files ≡ Some files
         → AsksFor (due (job_of (map string_bytes words.now)) files) (W.told world.old) (W.told world.new) }
     ensures by_status { EndsRunBy (job_of (map string_bytes words.now)) result session.new (W.told world.old) (W.told world.new) }
+    ensures read { (files : Files) → (W.told world.old).files ≡ Some files → ReadsRunBy (job_of (map string_bytes words.now)) files result (W.told world.new) }
     ensures finished { is_delivered result ≡ true → (W.told world.new).begun ≡ None }
     ensures complete { (files : Files) → (W.told world.old).files ≡ Some files
         → Completes (outcome (map string_bytes words.now) files) result (W.told world.old) (W.told world.new) }
@@ -99,6 +100,7 @@ fn run_words<W: World>(
     ensures due { (files : Files) → (W.told world.old).files ≡ Some files
         → AsksFor (due (job_of (map string_bytes words.now)) files) (W.told world.old) (W.told world.new) }
     ensures by_status { EndsRunBy (job_of (map string_bytes words.now)) result session.new (W.told world.old) (W.told world.new) }
+    ensures read { (files : Files) → (W.told world.old).files ≡ Some files → ReadsRunBy (job_of (map string_bytes words.now)) files result (W.told world.new) }
     ensures finished { is_delivered result ≡ true → (W.told world.new).begun ≡ None }
     ensures sound { IsSoundState session.new }
 {
@@ -121,6 +123,7 @@ fn run_job<W: World>(alloc: Global, job: Job<'_>, session: &mut Session, world: 
     ensures due { (files : Files) → (W.told world.old).files ≡ Some files
         → AsksFor (due_by_model (model_of job.entry.model.now files) (script_named job.entry.script.now files) (model_starts job.entry.model.now) (script_starts job.entry.script.now) (out_starts job.entry.out.now)) (W.told world.old) (W.told world.new) }
     ensures by_status { EndsBy (model_starts job.entry.model.now) (script_starts job.entry.script.now) (out_starts job.entry.out.now) result session.new (W.told world.old) (W.told world.new) }
+    ensures read { (files : Files) → (W.told world.old).files ≡ Some files → ReadsBy job.entry.model.now job.entry.script.now files result (W.told world.new) }
     ensures finished { is_delivered result ≡ true → (W.told world.new).begun ≡ None }
     ensures sound { IsSoundState session.new }
 {
@@ -153,6 +156,7 @@ fn run_model<W: World>(
     ensures due { (files : Files) → (W.told world.old).files ≡ Some files
         → AsksFor (due_by_script (script_named script.now files) (script_starts script.now) (out_starts out.now)) (W.told world.old) (W.told world.new) }
     ensures by_status { EndsBy [] (script_starts script.now) (out_starts out.now) result session.new (W.told world.old) (W.told world.new) }
+    ensures read { (files : Files) → (W.told world.old).files ≡ Some files → ReadsBy [] script.now files result (W.told world.new) }
     ensures finished { is_delivered result ≡ true → (W.told world.new).begun ≡ None }
     ensures sound { IsSoundState session.new }
 {
@@ -180,6 +184,7 @@ fn deliver<W: World>(
     ensures goes_on { is_past_script result ≡ true }
     ensures cause { Caused result (W.told world.old) (W.told world.new) }
     ensures by_status { EndsBy [] [] (out_starts out.now) result session.new (W.told world.old) (W.told world.new) }
+    ensures rest { (W.told world.new).rest ≡ (W.told world.old).rest }
     ensures finished { is_delivered result ≡ true → (W.told world.new).begun ≡ None }
     ensures sound { IsSoundState session.new }
 {
@@ -208,6 +213,7 @@ fn conclude<W: World>(
     ensures goes_on { is_past_script result ≡ true }
     ensures cause { Caused result (W.told world.old) (W.told world.new) }
     ensures by_status { EndsBy [] [] (out_starts out.now) result session.now (W.told world.old) (W.told world.new) }
+    ensures rest { (W.told world.new).rest ≡ (W.told world.old).rest }
     ensures finished { is_delivered result ≡ true → (W.told world.new).begun ≡ None }
 {
     match write_file(alloc, world, out, session) {

@@ -4,6 +4,7 @@ use Rattle.bmesh_cli.specs.Job.{model_starts, script_starts, out_starts}
 use Rattle.bmesh_cli.specs.Run.{model_of, script_named}
 use Rattle.bmesh_cli.proofs.Running.{ends_after, ends_model, ends_model_refused, asks_first}
 use Rattle.bmesh_cli.proofs.Asking.{asks_all, due_model, due_early_model, ends_by_model, ends_by_refused_model}
+use Rattle.bmesh_cli.proofs.Left.{reads_model, reads_refused_model}
 use Rattle.bmesh_cli.proofs.run.run_job.Goals as goal
 
 pub returns-in-Ok-clause-ends : goal.returns-in-Ok-clause-ends
@@ -76,3 +77,16 @@ returns-in-Err-NoMemory-clause-by_status g c =
     let tells = g.W.World.told in
     let job = c.args.job in
     asks_first (model_starts job.model.now) (script_starts job.script.now ++ out_starts job.out.now) (tells c.args.world.now) (tells c.read_model.new.world) (rw c.in-Err-NoMemory.field-0-is at c.in-Err-NoMemory.ensures.asked)
+
+pub returns-in-Ok-clause-read : goal.returns-in-Ok-clause-read
+returns-in-Ok-clause-read g c files told =
+    let job = c.args.job in
+    let still = ap (λ (t : Told). t.files) c.in-Ok.ensures.only ∙ told in
+    reads_model job.model.now job.script.now files c.run_model.result (g.W.World.told c.run_model.new.world) c.run_model.ensures.accepted (c.run_model.ensures.read files still)
+
+pub returns-in-Err-Refused-clause-read : goal.returns-in-Err-Refused-clause-read
+returns-in-Err-Refused-clause-read g c files told =
+    let tells = g.W.World.told in
+    let job = c.args.job in
+    reads_refused_model c.in-Err-Refused.refusal job.model.now job.script.now files c.refuse_model.result (tells c.read_model.new.world) (tells c.refuse_model.new.world) c.refuse_model.ensures.refused
+    (λ file. (rw c.in-Err-Refused.field-0-is at (c.in-Err-Refused.ensures.left file)) files told) (ap (λ (t : Told). t.rest) c.refuse_model.ensures.only)

@@ -1,9 +1,10 @@
-use Rattle.std.proofs.Common.{◌∙◌, ap}
+use Rattle.std.proofs.Common.{◌∙◌, [], ap}
 use Rattle.bmesh_cli.specs.Told.{Told}
 use Rattle.bmesh_cli.specs.Job.{script_starts, out_starts}
 use Rattle.bmesh_cli.specs.Run.{script_named}
 use Rattle.bmesh_cli.proofs.Running.{ends_after, ends_script, ends_script_refused, asks_first}
 use Rattle.bmesh_cli.proofs.Asking.{asks_all, asks_out, due_script, due_early_script, ends_by_script, ends_by_refused_script}
+use Rattle.bmesh_cli.proofs.Left.{reads_script, reads_refused_script}
 use Rattle.bmesh_cli.proofs.run.run_model.Goals as goal
 
 pub returns-in-Ok-clause-ends : goal.returns-in-Ok-clause-ends
@@ -61,3 +62,14 @@ pub returns-in-Err-NoMemory-clause-by_status : goal.returns-in-Err-NoMemory-clau
 returns-in-Err-NoMemory-clause-by_status g c =
     let tells = g.W.World.told in
     asks_first (script_starts c.args.script.now) (out_starts c.args.out.now) (tells c.args.world.now) (tells c.read_script.new.world) (rw c.in-Err-NoMemory.field-0-is at c.in-Err-NoMemory.ensures.asked)
+
+pub returns-in-Ok-clause-read : goal.returns-in-Ok-clause-read
+returns-in-Ok-clause-read g c files told =
+    let tells = g.W.World.told in
+    reads_script c.args.script.now files c.deliver.result (tells c.read_script.new.world) (tells c.deliver.new.world) c.deliver.ensures.goes_on (λ file. c.in-Ok.ensures.left file files told) c.deliver.ensures.rest
+
+pub returns-in-Err-Refused-clause-read : goal.returns-in-Err-Refused-clause-read
+returns-in-Err-Refused-clause-read g c files told =
+    let tells = g.W.World.told in
+    reads_refused_script c.in-Err-Refused.refusal [] c.args.script.now files c.refuse_script.result (tells c.read_script.new.world) (tells c.refuse_script.new.world) c.refuse_script.ensures.refused
+    (λ file. (rw c.in-Err-Refused.field-0-is at (c.in-Err-Refused.ensures.left file)) files told) (ap (λ (t : Told). t.rest) c.refuse_script.ensures.only)
