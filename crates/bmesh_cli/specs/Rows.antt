@@ -1,15 +1,15 @@
 -- Command lines and whole runs over small files, worked out.
-use Rattle.std.specs.Prelude.{◌≡◌, ℕ, Bool, true, false, List, [], ◌∷◌, ◌++◌, codes}
+use Rattle.std.specs.Prelude.{◌≡◌, ℕ, true, false, List, [], ◌∷◌, ◌++◌, codes}
 use Rattle.std.specs.declared.option.Option.TheVariants.{None, Some}
 use Rattle.mesh_model.specs.Complex.{no_complex}
 use Rattle.mesh_model.specs.Deleting.{without_verts}
 use Rattle.mesh_model.specs.Rows.{square, vert}
-use Rattle.mesh_session.specs.State.{State, fresh, loaded}
+use Rattle.mesh_session.specs.State.{loaded}
 use Rattle.obj_text.specs.declared.obj_fault.ObjWhy.TheVariants as obj_why
 use Rattle.script_text.specs.declared.fault.ScriptWhy.TheVariants as script_why
 use Rattle.bmesh_cli.specs.Files.{Files}
 use Rattle.bmesh_cli.specs.Job.{Job, job_of, is_grid, is_tour, model_starts, script_starts, out_starts}
-use Rattle.bmesh_cli.specs.Run.{Outcome, refuses, outcome, due}
+use Rattle.bmesh_cli.specs.Run.{refuses, outcome, due}
 use Rattle.bmesh_cli.specs.declared.status.Status.TheVariants.{Done, SomeRefused, Usage, ModelRefused, ScriptRefused}
 
 -- the words of a command line on these three files

@@ -1,6 +1,6 @@
-use Rattle.std.proofs.Common.{◌∙◌, refl}
+use Rattle.std.proofs.Common.{refl}
 use Rattle.bmesh_cli.specs.Run.{usage_line}
-use Rattle.bmesh_cli.specs.declared.status.Status.TheVariants.{Usage, ModelRefused, ScriptRefused, OutFault, NoMemory}
+use Rattle.bmesh_cli.specs.declared.status.Status.TheVariants.{Usage, OutFault, NoMemory}
 use Rattle.bmesh_cli.proofs.Asking.{prints_line}
 use Rattle.bmesh_cli.proofs.Running.{ends_unprinted}
 use Rattle.bmesh_cli.proofs.run.refuse_words.Goals as goal
