@@ -6,3 +6,5 @@ pub mod Lines
 pub mod Stepping
 pub mod Running
 pub mod Completing
+pub mod Asking
+pub mod Left

@@ -1,12 +1,13 @@
 -- Lemmas on reading a file to its end.
 use Rattle.std.proofs.Common.{◌≡◌, ℕ, ◌+◌, ◌<◌, ◌≤◌, List, [], ◌++◌, length, take, drop, refl, sym, ap, ◌∙◌, append_assoc, arith, Option, Some, Ok, Err}
 use Rattle.std.proofs.lemmas.List.{append-nil, take-append-drop, length-append, take_all}
-use Rattle.std.proofs.Math.Seq.{take-append_seam}
+use Rattle.std.proofs.Math.Seq.{take-append_seam, drop-append_seam}
+use Rattle.std.proofs.Math.ListN.{drop_of_length-le}
 use Rattle.std.specs.Option.{option_map}
 use Rattle.bmesh_cli.specs.Files.{Files, bytes_of}
 use Rattle.bmesh_cli.specs.Told.{Told, asked}
 use Rattle.bmesh_cli.specs.Calls.{ReadsNext}
-use Rattle.bmesh_cli.specs.Whole.{IsUpTo, IsWhole}
+use Rattle.bmesh_cli.specs.Whole.{IsUpTo, IsWhole, IsLeft}
 use Rattle.bmesh_cli.specs.declared.fault.WorldFault.{WorldFault}
 use Rattle.bmesh_cli.specs.declared.fault.WorldFault.TheVariants.{Failed, NoMemory}
 use Rattle.bmesh_cli.specs.declared.start.Purpose.TheVariants.{Reading}
@@ -87,3 +88,21 @@ fault_leaves_started old t t' name into NoMemory only h = ap (λ (x : Told). x.s
 
 pub ok_leaves_started : (old t t' : Told) (name into : List ℕ) (n : ℕ) → IsAsked old t name → ReadsNext t t' into (Ok n) → t'.started ≡ (asked old name Reading).started
 ok_leaves_started old t t' name into n only h = ap (λ (x : Told). x.started) h.1 ∙ ap (λ (x : Told). x.started) only
+
+-- nothing was given, though there was room: nothing is left
+pub is_left_at_end : (old t t' : Told) (name out into : List ℕ) (limit n : ℕ) → length out ≤ limit + 1 → 0 < length into → n ≡ 0 → AndLeft old t name out → ReadsNext t t' into (Ok n) → IsLeft old t' name (limit + 1)
+is_left_at_end old t t' name out into limit n few room zero left h files told =
+    let was = left files told in
+    let none : was.0 ≡ [] = (h.2 was.0 was.1).2 zero room in
+    let all : out ≡ bytes_of name files = sym (append-nil out) ∙ ap (λ (r : List ℕ). out ++ r) (sym none) ∙ was.2 in
+    let same : length out ≡ length (bytes_of name files) = ap length all in
+    let short : length (bytes_of name files) ≤ limit + 1 = omega (arith, same) in
+    ap (λ (x : Told). x.rest) h.1 ∙ ap (option_map (drop n)) (was.1 ∙ ap Some none)
+    ∙ ap Some (drop_of_length-le [] (omega arith) ∙ sym (drop_of_length-le (bytes_of name files) short))
+
+-- more than the limit was given: the rest is left
+pub is_left_past : (old t : Told) (name out : List ℕ) (limit : ℕ) → length out ≤ limit + 1 → limit < length out → AndLeft old t name out → IsLeft old t name (limit + 1)
+is_left_past old t name out limit few more left files told =
+    let was = left files told in
+    let one : length out ≡ limit + 1 = omega arith in
+    was.1 ∙ ap Some (sym (drop-append_seam out was.0) ∙ ap (λ (n : ℕ). drop n (out ++ was.0)) one ∙ ap (drop (limit + 1)) was.2)

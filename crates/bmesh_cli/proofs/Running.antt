@@ -147,6 +147,11 @@ ends_refused refused status line out old new answer all part = record {
   out_fault = λ _. refl;
 }
 
+-- a fault kept the line from being printed whole
+pub ends_unprinted : (refused status : Status) (line bytes out : List ℕ) (old new : Told) → is_answer status ≡ false → bytes ≡ line → PrintsPart old new bytes → Ends (refuses refused line) out status fresh old new
+ends_unprinted refused status line bytes out old new fault is part =
+    ends_refused refused status line out old new (λ answer. absurd (true≢false (sym answer ∙ fault))) (λ answer. absurd (true≢false (sym answer ∙ fault))) (rw is at part)
+
 -- an accepted script
 pub ends_script : (c : Complex) (s : Script) (script : Result Script ScriptRefusal) (out : List ℕ) (status : Status) (final : State) (old new : Told) → script ≡ Ok s → Ends (delivers c s) out status final old new → Ends (with_script c script) out status final old new
 ends_script c s script out status final old new is h = rw is h

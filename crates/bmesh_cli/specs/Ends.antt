@@ -1,5 +1,5 @@
 -- What stands after a run, whatever its status.
-use Rattle.std.specs.Prelude.{ℕ, ◌≡◌, ◌⊎◌, ◌++◌, Bool, true, false, List, take, Result, Ok}
+use Rattle.std.specs.Prelude.{ℕ, ◌≡◌, ◌⊎◌, ◌++◌, Bool, true, false, List, [], take, drop, Result, Ok}
 use Rattle.std.specs.Option.{option_map}
 use Rattle.std.specs.declared.option.Option.{Option}
 use Rattle.std.specs.declared.option.Option.TheVariants.{None, Some}
@@ -10,11 +10,11 @@ use Rattle.obj_text.specs.Causes.{Rose}
 use Rattle.obj_text.specs.declared.obj_fault.ObjRefusal.{ObjRefusal}
 use Rattle.script_text.specs.declared.commands.Script.{Script}
 use Rattle.script_text.specs.declared.fault.ScriptRefusal.{ScriptRefusal}
-use Rattle.bmesh_cli.specs.Files.{Files, put}
+use Rattle.bmesh_cli.specs.Files.{Files, bytes_of, put}
 use Rattle.bmesh_cli.specs.Told.{Told}
 use Rattle.bmesh_cli.specs.Whole.{KeepsCounts}
-use Rattle.bmesh_cli.specs.Job.{Job}
-use Rattle.bmesh_cli.specs.Run.{Outcome, model_of, script_named}
+use Rattle.bmesh_cli.specs.Job.{Job, is_grid, is_tour, model_starts, script_starts, out_starts}
+use Rattle.bmesh_cli.specs.Run.{Outcome, model_of, script_named, grid_refusal, read_most, usage_line, model_line, script_line}
 use Rattle.bmesh_cli.specs.declared.start.Start.{Start}
 use Rattle.bmesh_cli.specs.declared.status.Status.{Status}
 use Rattle.bmesh_cli.specs.declared.status.Status.TheVariants.{Done, SomeRefused, Usage, ModelRefused, ScriptRefused, InFault, OutFault, NoMemory}
@@ -52,6 +52,28 @@ is_delivered InFault = false
 is_delivered OutFault = false
 is_delivered NoMemory = false
 
+-- the model was accepted, or a fault or want of memory came first
+abbrev pub is_past_model : Status → Bool
+is_past_model Done = true
+is_past_model SomeRefused = true
+is_past_model Usage = false
+is_past_model (ModelRefused r) = false
+is_past_model (ScriptRefused r) = true
+is_past_model InFault = true
+is_past_model OutFault = true
+is_past_model NoMemory = true
+
+-- model and script were accepted, or a fault of output or want of memory came first
+abbrev pub is_past_script : Status → Bool
+is_past_script Done = true
+is_past_script SomeRefused = true
+is_past_script Usage = false
+is_past_script (ModelRefused r) = false
+is_past_script (ScriptRefused r) = false
+is_past_script InFault = false
+is_past_script OutFault = true
+is_past_script NoMemory = true
+
 -- what was made has this text under OUT, if there is one
 abbrev pub made_with : List ℕ → Option (List ℕ) → Option Files → Option Files
 made_with out None made = made
@@ -76,7 +98,7 @@ pub record PrintedPart (o : Outcome) (out : List ℕ) (old new : Told) : Type 0 
 abbrev pub MeetsPart : Outcome → List ℕ → Told → Told → Type 0
 MeetsPart o out old new = MadePart o out old new ⊎ PrintedPart o out old new
 
--- a fault comes only where its count rose in this run, and every other count and status stays
+-- a fault comes only where its count rose in this run, and no other answer leaves a count raised
 abbrev pub Caused : Status → Told → Told → Type 0
 Caused Done old new = KeepsCounts old new
 Caused SomeRefused old new = KeepsCounts old new
@@ -90,6 +112,50 @@ Caused NoMemory old new = KeepsCounts old new
 -- of these files the first so many were asked for, in order
 abbrev pub AsksFor : List Start → Told → Told → Type 0
 AsksFor starts old new = (n : ℕ) × (new.started ≡ old.started ++ take n starts)
+
+-- one line was printed and nothing made, the session is fresh, and these files were asked for
+pub record PrintsLine (line : List ℕ) (starts : List Start) (final : State) (old new : Told) : Type 0 where
+  pub made : new.made ≡ old.made
+  pub printed : new.printed ≡ with_after old.printed line
+  pub session : final ≡ fresh
+  pub started : new.started ≡ old.started ++ starts
+
+-- what each status says in every world, by the files of the model, of the script and of OUT: a refusal prints its line, and the
+-- next file is asked for only once what was read is accepted
+abbrev pub EndsBy : List Start → List Start → List Start → Status → State → Told → Told → Type 0
+EndsBy model script out Done final old new = new.started ≡ old.started ++ (model ++ (script ++ out))
+EndsBy model script out SomeRefused final old new = new.started ≡ old.started ++ (model ++ (script ++ out))
+EndsBy model script out Usage final old new = PrintsLine usage_line [] final old new
+EndsBy model script out (ModelRefused r) final old new = PrintsLine (model_line r) model final old new
+EndsBy model script out (ScriptRefused r) final old new = PrintsLine (script_line r) (model ++ script) final old new
+EndsBy model script out InFault final old new = AsksFor (model ++ script) old new
+EndsBy model script out OutFault final old new = AsksFor (model ++ (script ++ out)) old new
+EndsBy model script out NoMemory final old new = AsksFor (model ++ (script ++ out)) old new
+
+-- the same for the words of a command line
+abbrev pub EndsRunBy : Option Job → Status → State → Told → Told → Type 0
+EndsRunBy None status final old new = EndsBy [] [] [] status final old new
+EndsRunBy (Some job) status final old new = EndsBy (model_starts job.model) (script_starts job.script) (out_starts job.out) status final old new
+
+-- all but the first bytes of a file, as many as are read at most, are left to read
+abbrev pub IsRead : List ℕ → Files → Told → Type 0
+IsRead name files t = t.rest ≡ Some (drop read_most (bytes_of name files))
+
+-- after each answer, what is left to read of the input that was read last, if one was
+abbrev pub ReadsBy : List ℕ → List ℕ → Files → Status → Told → Type 0
+ReadsBy model script files Done new = is_tour script ≡ false → IsRead script files new
+ReadsBy model script files SomeRefused new = is_tour script ≡ false → IsRead script files new
+ReadsBy model script files Usage new = Unit {0}
+ReadsBy model script files (ModelRefused r) new = is_grid model ≡ false → IsRead model files new
+ReadsBy model script files (ScriptRefused r) new = is_tour script ≡ false → IsRead script files new
+ReadsBy model script files InFault new = Unit {0}
+ReadsBy model script files OutFault new = Unit {0}
+ReadsBy model script files NoMemory new = Unit {0}
+
+-- the same for the words of a command line
+abbrev pub ReadsRunBy : Option Job → Files → Status → Told → Type 0
+ReadsRunBy None files status new = Unit {0}
+ReadsRunBy (Some job) files status new = ReadsBy job.model job.script files status new
 
 -- the state after the first so many commands of a script on a complex
 abbrev pub IsOnTheWay : Complex → Script → State → Type 0
@@ -119,10 +185,14 @@ abbrev pub IsPartOfRun : Option Job → Files → State → Type 0
 IsPartOfRun None files final = final ≡ fresh
 IsPartOfRun (Some job) files final = IsPartOf (model_of job.model files) (script_named job.script files) final
 
--- words that are not accepted are answered by Usage, unless the one line can't be printed
+-- this status, unless its one line can't be printed
+abbrev pub IsRefusal : Status → Status → Type 0
+IsRefusal refusal status = (status ≡ refusal) ⊎ (status ≡ OutFault) ⊎ (status ≡ NoMemory)
+
+-- words that are not accepted are answered by Usage, and a model that is made from a number is refused
 abbrev pub RefusesWords : Option Job → Status → Type 0
-RefusesWords None status = (status ≡ Usage) ⊎ (status ≡ OutFault) ⊎ (status ≡ NoMemory)
-RefusesWords (Some job) status = status ≡ Usage → ⊥
+RefusesWords None status = IsRefusal Usage status
+RefusesWords (Some job) status = (status ≡ Usage → ⊥) × (is_grid job.model ≡ true → IsRefusal (ModelRefused grid_refusal) status)
 
 -- a count rose in this run
 abbrev pub HasRisen : Told → Told → Type 0

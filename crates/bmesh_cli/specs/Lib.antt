@@ -10,3 +10,4 @@ pub mod Report
 pub mod Run
 pub mod Ends
 pub mod Stops
+pub mod Rows

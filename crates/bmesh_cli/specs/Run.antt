@@ -1,5 +1,5 @@
 -- What a whole run gives, from its words and the files' bytes.
-use Rattle.std.specs.Prelude.{ℕ, if◌then◌else◌, codes, List, ◌++◌, Result, Ok, Err}
+use Rattle.std.specs.Prelude.{ℕ, if◌then◌else◌, codes, List, [], ◌++◌, Result, Ok, Err}
 use Rattle.std.specs.Fmt.{decimal}
 use Rattle.std.specs.List.{list_any}
 use Rattle.std.specs.declared.option.Option.{Option}
@@ -19,18 +19,27 @@ use Rattle.script_text.specs.declared.commands.Script.{Script}
 use Rattle.script_text.specs.declared.fault.ScriptRefusal.{ScriptRefusal}
 use Rattle.script_text.specs.declared.fault.ScriptWhy.TheVariants as script_why
 use Rattle.bmesh_cli.specs.Files.{Files, bytes_of}
-use Rattle.bmesh_cli.specs.Job.{Job, job_of, is_grid, is_tour}
+use Rattle.bmesh_cli.specs.Job.{Job, job_of, is_grid, is_tour, model_starts, script_starts, out_starts}
 use Rattle.bmesh_cli.specs.Report.{report, is_refused}
+use Rattle.bmesh_cli.specs.declared.start.Start.{Start}
 use Rattle.bmesh_cli.specs.declared.status.Status.{Status}
 use Rattle.bmesh_cli.specs.declared.status.Status.TheVariants.{Done, SomeRefused, Usage, ModelRefused, ScriptRefused}
 
+-- the refusal of a model that is made from a number
+abbrev pub grid_refusal : ObjRefusal
+grid_refusal = record { line = 0; why = obj_why.NotYet }
+
 -- the complex of a model, or its first fault
 abbrev pub model_of : List ℕ → Files → Result Complex ObjRefusal
-model_of name files = if is_grid name then Err (record { line = 0; why = obj_why.NotYet }) else read_text 0 (bytes_of name files)
+model_of name files = if is_grid name then Err grid_refusal else read_text 0 (bytes_of name files)
 
 -- the script of a name, or its first fault
 abbrev pub script_named : List ℕ → Files → Result Script ScriptRefusal
 script_named name files = if is_tour name then Err (record { line = 0; why = script_why.NotYet }) else script_of (bytes_of name files)
+
+-- how many bytes of an input are read at most: one past the limit
+abbrev pub read_most : ℕ
+read_most = 65537
 
 -- the line for words that are not accepted
 abbrev pub usage_line : List ℕ
@@ -82,6 +91,21 @@ with_model (Ok c) script = with_script c script
 abbrev pub with_job : Files → Option Job → Outcome
 with_job files None = refuses Usage usage_line
 with_job files (Some job) = with_model (model_of job.model files) (script_named job.script files)
+
+-- the files that are due once a model is accepted: SCRIPT, and OUT where the script is accepted
+abbrev pub due_by_script : Result Script ScriptRefusal → List Start → List Start → List Start
+due_by_script (Err r) script out = script
+due_by_script (Ok s) script out = script ++ out
+
+-- the files that are due: MODEL, and the others where the model is accepted
+abbrev pub due_by_model : Result Complex ObjRefusal → Result Script ScriptRefusal → List Start → List Start → List Start → List Start
+due_by_model (Err r) verdict model script out = model
+due_by_model (Ok c) verdict model script out = model ++ due_by_script verdict script out
+
+-- the files that are due for the words of a command line, by what the files have
+abbrev pub due : Option Job → Files → List Start
+due None files = []
+due (Some job) files = due_by_model (model_of job.model files) (script_named job.script files) (model_starts job.model) (script_starts job.script) (out_starts job.out)
 
 -- what a run gives
 abbrev pub outcome : List (List ℕ) → Files → Outcome

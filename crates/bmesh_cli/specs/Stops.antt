@@ -2,7 +2,7 @@
 use Rattle.std.specs.Prelude.{◌≡◌, ℕ, ◌++◌, List, take, Result, Ok, Err}
 use Rattle.obj_text.specs.Causes.{Rose}
 use Rattle.bmesh_cli.specs.Told.{Told}
-use Rattle.bmesh_cli.specs.Whole.{KeepsCounts}
+use Rattle.bmesh_cli.specs.Whole.{KeepsCounts, IsLeft}
 use Rattle.bmesh_cli.specs.declared.start.Start.{Start}
 use Rattle.bmesh_cli.specs.declared.stop.Stop.{Stop}
 use Rattle.bmesh_cli.specs.declared.stop.Stop.TheVariants.{Refused, Failed, NoMemory}
@@ -25,7 +25,16 @@ CausesStop (Err (Refused _)) old new = KeepsCounts old new
 CausesStop (Err Failed) old new = Rose old.in_faults new.in_faults × (new.out_faults ≡ old.out_faults)
 CausesStop (Err NoMemory) old new = KeepsCounts old new
 
--- the files were asked for; or, where nothing is given, the first so many of them
+-- the files were asked for where they were judged, and else the first so many of them
 abbrev pub AsksBefore : {T R : Type 0} → Result T (Stop R) → List Start → Told → Told → Type 0
 AsksBefore (Ok _) starts old new = new.started ≡ old.started ++ starts
-AsksBefore (Err _) starts old new = (n : ℕ) × (new.started ≡ old.started ++ take n starts)
+AsksBefore (Err (Refused _)) starts old new = new.started ≡ old.started ++ starts
+AsksBefore (Err Failed) starts old new = (n : ℕ) × (new.started ≡ old.started ++ take n starts)
+AsksBefore (Err NoMemory) starts old new = (n : ℕ) × (new.started ≡ old.started ++ take n starts)
+
+-- where an input was judged, all but the first so many bytes of its file are left to read
+abbrev pub LeavesRest : {T R : Type 0} → Result T (Stop R) → Told → Told → List ℕ → ℕ → Type 0
+LeavesRest (Ok _) old new name taken = IsLeft old new name taken
+LeavesRest (Err (Refused _)) old new name taken = IsLeft old new name taken
+LeavesRest (Err Failed) old new name taken = Unit {0}
+LeavesRest (Err NoMemory) old new name taken = Unit {0}

@@ -1,5 +1,5 @@
 -- What reading a whole file, writing one, and printing a whole text do.
-use Rattle.std.specs.Prelude.{ℕ, ◌≡◌, ◌+◌, ◌<◌, ◌≤◌, ◌⊎◌, ◌↔◌, List, [], ◌∷◌, ◌++◌, length, take, Result, Ok, Err}
+use Rattle.std.specs.Prelude.{ℕ, ◌≡◌, ◌+◌, ◌<◌, ◌≤◌, ◌⊎◌, ◌↔◌, List, [], ◌∷◌, ◌++◌, length, take, drop, Result, Ok, Err}
 use Rattle.std.specs.Option.{option_map}
 use Rattle.std.specs.declared.option.Option.TheVariants.{Some}
 use Rattle.obj_text.specs.Told.{with_after}
@@ -27,7 +27,7 @@ CausesOut (Ok _) old new = KeepsCounts old new
 CausesOut (Err Failed) old new = Rose old.out_faults new.out_faults × (new.in_faults ≡ old.in_faults)
 CausesOut (Err NoMemory) old new = KeepsCounts old new
 
--- the file was asked for, or there was no memory and nothing or the file was asked for
+-- the file was asked for, or there was no memory and the file was asked for or not
 abbrev pub GainsStart : {T : Type 0} → Result T WorldFault → Told → Told → List ℕ → Purpose → Type 0
 GainsStart (Ok _) old new name purpose = new.started ≡ (asked old name purpose).started
 GainsStart (Err Failed) old new name purpose = new.started ≡ (asked old name purpose).started
@@ -42,6 +42,10 @@ pub record IsUpTo (limit : ℕ) (bytes file : List ℕ) : Type 0 where
 -- the bytes are one past a limit at most, and where files are told, those of the named one
 abbrev pub IsWhole : Told → List ℕ → ℕ → List ℕ → Type 0
 IsWhole t name limit bytes = (length bytes ≤ limit + 1) × ((files : Files) → t.files ≡ Some files → IsUpTo limit bytes (bytes_of name files))
+
+-- where files are told, all but the first so many bytes of the named one are left to read
+abbrev pub IsLeft : Told → Told → List ℕ → ℕ → Type 0
+IsLeft old new name taken = (files : Files) → old.files ≡ Some files → new.rest ≡ Some (drop taken (bytes_of name files))
 
 -- a read changes only what is left to read, what was asked for and the count of faults of input
 abbrev pub OnlyReads : Told → Told → Type 0

@@ -1,6 +1,8 @@
-ghost use Rattle.std.specs.Prelude.{◌≡◌, [], OnOk, OnErr, IfErr};
-ghost use Rattle.bmesh_cli.specs.Told.{asked};
-ghost use Rattle.bmesh_cli.specs.Calls.{FailsIn, FailsOut};
+ghost use Rattle.std.specs.Prelude.{◌≡◌, ◌<◌, ◌≤◌, [], length, take, OnOk, OnErr, IfOk, IfErr};
+ghost use Rattle.obj_text.specs.Told.{with_after};
+ghost use Rattle.obj_text.specs.Causes.{CountsFault};
+ghost use Rattle.bmesh_cli.specs.Told.{asked, wrote_of, rest_of};
+ghost use Rattle.bmesh_cli.specs.Calls.{FailsIn, FailsOut, Finishes};
 ghost use Rattle.bmesh_cli.specs.declared.fault.WorldFault.TheVariants.{NoMemory};
 
 use crate::bytes::Bytes;
@@ -119,7 +121,17 @@ impl Sink for HostWorld {
 
     ghost faults = { λ t. t.out_faults };
 
-    fn write(&mut self, from: &[u8]) -> Result<usize, WriteFault> {
+    // With no file begun all the bytes are taken, and go nowhere.
+    fn write(&mut self, from: &[u8]) -> Result<usize, WriteFault>
+        ensures most { IfOk result (λ n. n ≤ length from.now) }
+        ensures some { IfOk result (λ n. 0 < length from.now → 0 < n) }
+        ensures wrote { IfOk result (λ n. wrote_of self.new ≡ with_after (wrote_of self.old) (take n from.now)) }
+        ensures fault { OnErr result (wrote_of self.new ≡ wrote_of self.old) }
+        ensures empty { length from.now ≡ 0 → (result ≡ Ok 0) × (wrote_of self.new ≡ wrote_of self.old) }
+        ensures others { rest_of self.new ≡ rest_of self.old }
+        ensures cause { CountsFault result self.old.out_faults self.new.out_faults }
+        ensures nowhere { self.old.begun ≡ None → (result ≡ Ok (length from.now)) × (self.new ≡ self.old) }
+    {
         if from.is_empty() {
             return Ok(0);
         }
@@ -181,7 +193,11 @@ impl World for HostWorld {
         }
     }
 
-    fn finish(&mut self) -> Result<(), WorldFault> {
+    // With no file begun nothing is done.
+    fn finish(&mut self) -> Result<(), WorldFault>
+        ensures ended { Finishes self.old self.new result }
+        ensures nothing { self.old.begun ≡ None → (result ≡ Ok tt) × (self.new ≡ self.old) }
+    {
         let flushed = match &mut self.writing {
             Some(begun) => begun.file.flush(),
             None => return Ok(()),

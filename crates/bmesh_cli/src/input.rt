@@ -1,5 +1,5 @@
-ghost use Rattle.std.specs.Prelude.{IfOk};
-ghost use Rattle.bmesh_cli.specs.Whole.{IsWhole, OnlyReads, GainsStart, CausesIn};
+ghost use Rattle.std.specs.Prelude.{◌+◌, IfOk};
+ghost use Rattle.bmesh_cli.specs.Whole.{IsWhole, IsLeft, OnlyReads, GainsStart, CausesIn};
 ghost use Rattle.bmesh_cli.specs.declared.start.Purpose.TheVariants.{Reading};
 
 use crate::fault::WorldFault;
@@ -19,6 +19,7 @@ pub fn read_all<W: World>(
     ensures whole { IfOk result (λ v. IsWhole (W.told world.old) name.now limit v.items) }
     ensures only { OnlyReads (W.told world.old) (W.told world.new) }
     ensures started { GainsStart result (W.told world.old) (W.told world.new) name.now Reading }
+    ensures left { IfOk result (λ _. IsLeft (W.told world.old) (W.told world.new) name.now (limit + 1)) }
     ensures cause { CausesIn result (W.told world.old) (W.told world.new) }
 {
     world.start_read(name)?;

@@ -1,13 +1,13 @@
 //! The model and the script, read and judged.
 
-ghost use Rattle.std.specs.Prelude.{◌≡◌, ℕ, Some, IfOk};
+ghost use Rattle.std.specs.Prelude.{◌≡◌, ℕ, true, false, Some, IfOk};
 ghost use Rattle.mesh_model.specs.Valid.{IsSimple};
 ghost use Rattle.obj_text.specs.Obj.{read_text};
 ghost use Rattle.script_text.specs.Script.{script_of};
 ghost use Rattle.bmesh_cli.specs.Files.{Files};
 ghost use Rattle.bmesh_cli.specs.Job.{is_grid, is_tour, model_starts, script_starts};
-ghost use Rattle.bmesh_cli.specs.Run.{model_of, script_named};
-ghost use Rattle.bmesh_cli.specs.Stops.{Judges, CausesStop, AsksBefore};
+ghost use Rattle.bmesh_cli.specs.Run.{grid_refusal, model_of, script_named, read_most};
+ghost use Rattle.bmesh_cli.specs.Stops.{Judges, CausesStop, AsksBefore, LeavesRest};
 ghost use Rattle.bmesh_cli.specs.Whole.{OnlyReads};
 
 use crate::fault::WorldFault;
@@ -31,9 +31,11 @@ pub fn read_model<W: World>(
     name: &str,
 ) -> Result<Draft, Stop<ObjRefusal>>
     ensures judged { (files : Files) → (W.told world.old).files ≡ Some files → Judges result (model_of name.now files) }
+    ensures grid { is_grid name.now ≡ true → result ≡ Err (Stop.Refused grid_refusal) }
     ensures simple { IfOk result (λ d. IsSimple d) }
     ensures only { OnlyReads (W.told world.old) (W.told world.new) }
     ensures asked { AsksBefore result (model_starts name.now) (W.told world.old) (W.told world.new) }
+    ensures left { is_grid name.now ≡ false → LeavesRest result (W.told world.old) (W.told world.new) name.now read_most }
     ensures cause { CausesStop result (W.told world.old) (W.told world.new) }
 {
     if is_grid(name) {
@@ -75,6 +77,7 @@ pub fn read_script<W: World>(
     ensures judged { (files : Files) → (W.told world.old).files ≡ Some files → Judges result (script_named name.now files) }
     ensures only { OnlyReads (W.told world.old) (W.told world.new) }
     ensures asked { AsksBefore result (script_starts name.now) (W.told world.old) (W.told world.new) }
+    ensures left { is_tour name.now ≡ false → LeavesRest result (W.told world.old) (W.told world.new) name.now read_most }
     ensures cause { CausesStop result (W.told world.old) (W.told world.new) }
 {
     if is_tour(name) {

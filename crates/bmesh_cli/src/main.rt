@@ -10,6 +10,7 @@ mod host;
 mod input;
 mod inputs;
 mod job;
+mod laws;
 mod memory;
 mod output;
 mod report;

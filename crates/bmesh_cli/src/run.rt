@@ -1,13 +1,13 @@
 //! The whole run.
 
-ghost use Rattle.std.specs.Prelude.{◌≡◌, ◌⊎◌, ◌++◌, ℕ, List, true, false, None, Some, Ok, length, map, if◌then◌else◌};
+ghost use Rattle.std.specs.Prelude.{◌≡◌, ◌⊎◌, ℕ, List, [], true, false, None, Some, Ok, length, map, if◌then◌else◌};
 ghost use Rattle.std.specs.String.{string_bytes};
 ghost use Rattle.mesh_model.specs.Valid.{IsSimple};
 ghost use Rattle.mesh_session.specs.State.{fresh, IsSoundState};
 ghost use Rattle.bmesh_cli.specs.Files.{Files};
 ghost use Rattle.bmesh_cli.specs.Job.{job_of, script_starts, out_starts, model_starts, starts_of, out_of};
-ghost use Rattle.bmesh_cli.specs.Run.{model_of, script_named, model_line, script_line, refuses, concludes, delivers, with_script, with_model, usage_line, outcome};
-ghost use Rattle.bmesh_cli.specs.Ends.{is_answer, is_delivered, Ends, LeavesAll, Caused, AsksFor, IsOnTheWay, IsPartOf, IsPartOfRun, RefusesWords, Completes};
+ghost use Rattle.bmesh_cli.specs.Run.{model_of, script_named, model_line, script_line, refuses, concludes, delivers, with_script, with_model, usage_line, outcome, due_by_script, due_by_model, due};
+ghost use Rattle.bmesh_cli.specs.Ends.{is_answer, is_delivered, is_past_model, is_past_script, Ends, LeavesAll, Caused, AsksFor, EndsBy, EndsRunBy, ReadsBy, ReadsRunBy, IsOnTheWay, IsPartOf, IsPartOfRun, IsRefusal, RefusesWords, Completes};
 ghost use Rattle.bmesh_cli.specs.Report.{report, is_refused};
 ghost use Rattle.bmesh_cli.specs.Whole.{PrintsPart, OnlyPrints};
 ghost use Rattle.obj_text.specs.Told.{with_after};
@@ -36,7 +36,9 @@ const USAGE: &str = "usage: bmesh MODEL SCRIPT OUT [--scale N]\n";
 /// Runs a command line: reads the model and the script, gives the commands in order, writes the last
 /// complex and prints the report.
 ///
-/// `words` are those after the program's name, and the session is fresh.
+/// `words` are those after the program's name, and the session is fresh. The words are judged first,
+/// then the model, and then the script: SCRIPT is opened only where the model is accepted, and OUT
+/// only where the script is. The report is printed once OUT is whole.
 pub fn run<W: World>(
     alloc: Global,
     words: &[String],
@@ -52,6 +54,10 @@ pub fn run<W: World>(
     ensures usage { RefusesWords (job_of (map string_bytes words.now)) result }
     ensures cause { Caused result (W.told world.old) (W.told world.new) }
     ensures asked { AsksFor (starts_of (job_of (map string_bytes words.now))) (W.told world.old) (W.told world.new) }
+    ensures due { (files : Files) → (W.told world.old).files ≡ Some files
+        → AsksFor (due (job_of (map string_bytes words.now)) files) (W.told world.old) (W.told world.new) }
+    ensures by_status { EndsRunBy (job_of (map string_bytes words.now)) result session.new (W.told world.old) (W.told world.new) }
+    ensures read { (files : Files) → (W.told world.old).files ≡ Some files → ReadsRunBy (job_of (map string_bytes words.now)) files result (W.told world.new) }
     ensures finished { is_delivered result ≡ true → (W.told world.new).begun ≡ None }
     ensures complete { (files : Files) → (W.told world.old).files ≡ Some files
         → Completes (outcome (map string_bytes words.now) files) result (W.told world.old) (W.told world.new) }
@@ -91,7 +97,10 @@ fn run_words<W: World>(
         → IsPartOfRun (job_of (map string_bytes words.now)) files session.new }
     ensures usage { RefusesWords (job_of (map string_bytes words.now)) result }
     ensures cause { Caused result (W.told world.old) (W.told world.new) }
-    ensures asked { AsksFor (starts_of (job_of (map string_bytes words.now))) (W.told world.old) (W.told world.new) }
+    ensures due { (files : Files) → (W.told world.old).files ≡ Some files
+        → AsksFor (due (job_of (map string_bytes words.now)) files) (W.told world.old) (W.told world.new) }
+    ensures by_status { EndsRunBy (job_of (map string_bytes words.now)) result session.new (W.told world.old) (W.told world.new) }
+    ensures read { (files : Files) → (W.told world.old).files ≡ Some files → ReadsRunBy (job_of (map string_bytes words.now)) files result (W.told world.new) }
     ensures finished { is_delivered result ≡ true → (W.told world.new).begun ≡ None }
     ensures sound { IsSoundState session.new }
 {
@@ -109,9 +118,12 @@ fn run_job<W: World>(alloc: Global, job: Job<'_>, session: &mut Session, world: 
     ensures in_fault { result ≡ Status.InFault → LeavesAll session.new (W.told world.old) (W.told world.new) }
     ensures no_memory { result ≡ Status.NoMemory → (files : Files) → (W.told world.old).files ≡ Some files
         → IsPartOf (model_of job.entry.model.now files) (script_named job.entry.script.now files) session.new }
-    ensures accepted { result ≡ Status.Usage → ⊥ }
+    ensures usage { RefusesWords (Some (record { model = job.entry.model.now; script = job.entry.script.now; out = job.entry.out.now })) result }
     ensures cause { Caused result (W.told world.old) (W.told world.new) }
-    ensures asked { AsksFor (model_starts job.entry.model.now ++ (script_starts job.entry.script.now ++ out_starts job.entry.out.now)) (W.told world.old) (W.told world.new) }
+    ensures due { (files : Files) → (W.told world.old).files ≡ Some files
+        → AsksFor (due_by_model (model_of job.entry.model.now files) (script_named job.entry.script.now files) (model_starts job.entry.model.now) (script_starts job.entry.script.now) (out_starts job.entry.out.now)) (W.told world.old) (W.told world.new) }
+    ensures by_status { EndsBy (model_starts job.entry.model.now) (script_starts job.entry.script.now) (out_starts job.entry.out.now) result session.new (W.told world.old) (W.told world.new) }
+    ensures read { (files : Files) → (W.told world.old).files ≡ Some files → ReadsBy job.entry.model.now job.entry.script.now files result (W.told world.new) }
     ensures finished { is_delivered result ≡ true → (W.told world.new).begun ≡ None }
     ensures sound { IsSoundState session.new }
 {
@@ -139,9 +151,12 @@ fn run_model<W: World>(
     ensures in_fault { result ≡ Status.InFault → LeavesAll session.new (W.told world.old) (W.told world.new) }
     ensures no_memory { result ≡ Status.NoMemory → (files : Files) → (W.told world.old).files ≡ Some files
         → IsPartOf (Ok draft.now) (script_named script.now files) session.new }
-    ensures accepted { result ≡ Status.Usage → ⊥ }
+    ensures accepted { is_past_model result ≡ true }
     ensures cause { Caused result (W.told world.old) (W.told world.new) }
-    ensures asked { AsksFor (script_starts script.now ++ out_starts out.now) (W.told world.old) (W.told world.new) }
+    ensures due { (files : Files) → (W.told world.old).files ≡ Some files
+        → AsksFor (due_by_script (script_named script.now files) (script_starts script.now) (out_starts out.now)) (W.told world.old) (W.told world.new) }
+    ensures by_status { EndsBy [] (script_starts script.now) (out_starts out.now) result session.new (W.told world.old) (W.told world.new) }
+    ensures read { (files : Files) → (W.told world.old).files ≡ Some files → ReadsBy [] script.now files result (W.told world.new) }
     ensures finished { is_delivered result ≡ true → (W.told world.new).begun ≡ None }
     ensures sound { IsSoundState session.new }
 {
@@ -166,9 +181,10 @@ fn deliver<W: World>(
     requires simple { IsSimple draft.now }
     ensures ends { Ends (delivers draft.now script.now) out.now result session.new (W.told world.old) (W.told world.new) }
     ensures no_memory { result ≡ Status.NoMemory → (session.new ≡ fresh) ⊎ IsOnTheWay draft.now script.now session.new }
-    ensures goes_on { (result ≡ Status.InFault → ⊥) × (result ≡ Status.Usage → ⊥) }
+    ensures goes_on { is_past_script result ≡ true }
     ensures cause { Caused result (W.told world.old) (W.told world.new) }
-    ensures asked { AsksFor (out_starts out.now) (W.told world.old) (W.told world.new) }
+    ensures by_status { EndsBy [] [] (out_starts out.now) result session.new (W.told world.old) (W.told world.new) }
+    ensures rest { (W.told world.new).rest ≡ (W.told world.old).rest }
     ensures finished { is_delivered result ≡ true → (W.told world.new).begun ≡ None }
     ensures sound { IsSoundState session.new }
 {
@@ -194,9 +210,10 @@ fn conclude<W: World>(
     requires sound { IsSoundState session.now }
     requires long { length replies.now ≡ length commands.now }
     ensures ends { Ends (concludes commands.now replies.now session.now) out.now result session.now (W.told world.old) (W.told world.new) }
-    ensures goes_on { (result ≡ Status.InFault → ⊥) × (result ≡ Status.Usage → ⊥) }
+    ensures goes_on { is_past_script result ≡ true }
     ensures cause { Caused result (W.told world.old) (W.told world.new) }
-    ensures asked { AsksFor (out_starts out.now) (W.told world.old) (W.told world.new) }
+    ensures by_status { EndsBy [] [] (out_starts out.now) result session.now (W.told world.old) (W.told world.new) }
+    ensures rest { (W.told world.new).rest ≡ (W.told world.old).rest }
     ensures finished { is_delivered result ≡ true → (W.told world.new).begun ≡ None }
 {
     match write_file(alloc, world, out, session) {
@@ -218,7 +235,7 @@ fn print_report<W: World>(
     ensures status { is_answer result ≡ true → result ≡ (concludes commands.now replies.now session.now).status }
     ensures all { is_answer result ≡ true → W.told world.new ≡ record (W.told world.old) { printed = with_after (W.told world.old).printed (report commands.now replies.now session.now) } }
     ensures part { PrintsPart (W.told world.old) (W.told world.new) (report commands.now replies.now session.now) }
-    ensures goes_on { (result ≡ Status.InFault → ⊥) × (result ≡ Status.Usage → ⊥) }
+    ensures goes_on { is_past_script result ≡ true }
     ensures cause { Caused result (W.told world.old) (W.told world.new) }
 {
     let Ok(text) = report(alloc, commands, replies, session) else {
@@ -233,7 +250,8 @@ fn print_report<W: World>(
 
 // How a run ends whose commands have these replies.
 fn status_of(replies: &[Reply]) -> Status
-    ensures { result ≡ (if list_any is_refused replies.now then Status.SomeRefused else Status.Done) }
+    ensures status { result ≡ (if list_any is_refused replies.now then Status.SomeRefused else Status.Done) }
+    ensures goes_on { is_past_script result ≡ true }
 {
     if some_refused(replies) {
         Status::SomeRefused
@@ -245,7 +263,8 @@ fn status_of(replies: &[Reply]) -> Status
 // Prints the one line for words that are not accepted.
 fn refuse_words<W: World>(world: &mut W) -> Status
     ensures ends { (out : List ℕ) → Ends (refuses Status.Usage usage_line) out result fresh (W.told world.old) (W.told world.new) }
-    ensures usage { RefusesWords None result }
+    ensures refused { IsRefusal Status.Usage result }
+    ensures by_status { EndsBy [] [] [] result fresh (W.told world.old) (W.told world.new) }
     ensures only { OnlyPrints (W.told world.old) (W.told world.new) }
     ensures goes_on { (result ≡ Status.InFault → ⊥) × (is_delivered result ≡ false) }
     ensures cause { Caused result (W.told world.old) (W.told world.new) }
@@ -260,6 +279,8 @@ fn refuse_words<W: World>(world: &mut W) -> Status
 // Prints the one line for a model that is not accepted.
 fn refuse_model<W: World>(alloc: Global, refusal: ObjRefusal, world: &mut W) -> Status
     ensures ends { (out : List ℕ) → Ends (refuses (Status.ModelRefused refusal) (model_line refusal)) out result fresh (W.told world.old) (W.told world.new) }
+    ensures refused { IsRefusal (Status.ModelRefused refusal) result }
+    ensures by_status { EndsBy [] [] [] result fresh (W.told world.old) (W.told world.new) }
     ensures only { OnlyPrints (W.told world.old) (W.told world.new) }
     ensures goes_on { (result ≡ Status.InFault → ⊥) × (result ≡ Status.Usage → ⊥) × (is_delivered result ≡ false) }
     ensures cause { Caused result (W.told world.old) (W.told world.new) }
@@ -279,6 +300,8 @@ fn refuse_model<W: World>(alloc: Global, refusal: ObjRefusal, world: &mut W) -> 
 // Prints the one line for a script that is not accepted.
 fn refuse_script<W: World>(alloc: Global, refusal: ScriptRefusal, world: &mut W) -> Status
     ensures ends { (out : List ℕ) → Ends (refuses (Status.ScriptRefused refusal) (script_line refusal)) out result fresh (W.told world.old) (W.told world.new) }
+    ensures refused { IsRefusal (Status.ScriptRefused refusal) result }
+    ensures by_status { EndsBy [] [] [] result fresh (W.told world.old) (W.told world.new) }
     ensures only { OnlyPrints (W.told world.old) (W.told world.new) }
     ensures goes_on { (result ≡ Status.InFault → ⊥) × (result ≡ Status.Usage → ⊥) × (is_delivered result ≡ false) }
     ensures cause { Caused result (W.told world.old) (W.told world.new) }

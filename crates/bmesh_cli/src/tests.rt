@@ -143,35 +143,114 @@ fn words_give(alloc: Global, texts: &[&str], code: u8, line: &str) -> Result<boo
     Ok(ended == (code, 0) && is_made(&world, None) && world.printed_bytes() == line.as_bytes())
 }
 
+const USAGE: &str = "usage: bmesh MODEL SCRIPT OUT [--scale N]\n";
+
 #[test]
 fn other_words_are_refused(rt: HostRuntime) -> Result<(), Fail> {
-    let usage = "usage: bmesh MODEL SCRIPT OUT [--scale N]\n";
-    let alloc = rt.alloc();
-    assert!(rt; words_give(alloc, &["model", "script", "out", "--scale"], 2, usage)?);
-    assert!(rt; words_give(alloc, &["model", "script", "out"], 2, usage)?);
-    assert!(rt; words_give(alloc, &["model", "script", "out", "--scale", "1"], 2, usage)?);
-    assert!(rt; words_give(alloc, &["model", "script", "", "--scale", "0"], 2, usage)?);
-    assert!(rt;
-        words_give(
-            alloc,
-            &["-model", "script", "out", "--scale", "0"],
-            2,
-            usage
-        )?
-    );
-    assert!(rt; words_give(alloc, &["--scale", "0", "model", "script", "out"], 2, usage)?);
-    assert!(rt; words_give(alloc, &[], 2, usage)?);
+    let cases: [&[&str]; 9] = [
+        &[],
+        &["model", "script"],
+        &["model", "script", "out"],
+        &["model", "script", "out", "--scale"],
+        &["model", "script", "out", "--scale", "1"],
+        &["model", "script", "out", "--scale", "00"],
+        &["model", "script", "out", "--scales", "0"],
+        &["model", "script", "out", "--scale", "0", "0"],
+        &["--scale", "0", "model", "script", "out"],
+    ];
+    for case in cases {
+        assert!(rt; words_give(rt.alloc(), case, 2, USAGE)?);
+    }
+    Ok(())
+}
+
+#[test]
+fn other_names_are_refused(rt: HostRuntime) -> Result<(), Fail> {
+    for (model, script, out) in [
+        ("", "script", "out"),
+        ("model", "", "out"),
+        ("model", "script", ""),
+        ("-", "script", "out"),
+        ("-model", "script", "out"),
+        ("model", "-script", "out"),
+        ("model", "script", "-out"),
+    ] {
+        let words = [model, script, out, "--scale", "0"];
+        assert!(rt; words_give(rt.alloc(), &words, 2, USAGE)?);
+    }
+    Ok(())
+}
+
+#[test]
+fn names_that_are_no_files(rt: HostRuntime) -> Result<(), Fail> {
     let grid = "model line 0: NotYet\n";
-    assert!(rt;
-        words_give(
-            alloc,
-            &["@grid:4", "script", "out", "--scale", "0"],
-            3,
-            grid
-        )?
-    );
     let tour = "script line 0: NotYet\n";
-    assert!(rt; words_give(alloc, &["model", "@tour", "out", "--scale", "0"], 4, tour)?);
+    for (model, script, code, line) in [
+        ("@grid:4", "script", 3, grid),
+        ("@grid:", "script", 3, grid),
+        ("model", "@tour", 4, tour),
+    ] {
+        let words = [model, script, "out", "--scale", "0"];
+        assert!(rt;
+            words_give(rt.alloc(), &words, code, line)?,
+            "{model} {script}"
+        );
+    }
+    Ok(())
+}
+
+// Whether a corner is cut where the model and the script have these names.
+fn cuts_named(alloc: Global, model: &str, script: &str) -> Result<bool, NoMemory> {
+    let mut world = MemoryWorld::new(alloc);
+    world.add_file(model, SQUARE.as_bytes())?;
+    world.add_file(script, CUT.as_bytes())?;
+    let ended = run_words(alloc, &[model, script, "out", "--scale", "0"], &mut world)?;
+    Ok(ended == (0, 1) && is_made(&world, Some(CUT_SQUARE)))
+}
+
+#[test]
+fn names_nearly_like_those(rt: HostRuntime) -> Result<(), Fail> {
+    assert!(rt; cuts_named(rt.alloc(), "@grid", "@tour2")?);
+    Ok(())
+}
+
+// So many line feeds.
+fn line_feeds(alloc: Global, count: usize) -> Result<Vec<u8>, NoMemory> {
+    let mut bytes = Vec::new(alloc);
+    for _ in 0..count {
+        bytes.push(b'\n')?;
+    }
+    Ok(bytes)
+}
+
+// Whether a run of a model and a script of so many line feeds ends with this status and text.
+fn feeds_give(
+    alloc: Global,
+    model: usize,
+    script: usize,
+    code: u8,
+    printed: &str,
+) -> Result<bool, NoMemory> {
+    let mut world = MemoryWorld::new(alloc);
+    world.add_file("model", &line_feeds(alloc, model)?)?;
+    world.add_file("script", &line_feeds(alloc, script)?)?;
+    let ended = run_words(alloc, &WORDS, &mut world)?;
+    Ok(ended == (code, 0) && world.printed_bytes() == printed.as_bytes())
+}
+
+#[test]
+fn texts_at_the_limit(rt: HostRuntime) -> Result<(), Fail> {
+    let report = "end verts=0 edges=0 faces=0 corners=0 loose=0 refused=0 undo=0 redo=0\n";
+    for (model, script, code, printed) in [
+        (65_536, 65_536, 0, report),
+        (65_537, 65_536, 3, "model line 0: NotYet\n"),
+        (65_536, 65_537, 4, "script line 0: NotYet\n"),
+    ] {
+        assert!(rt;
+            feeds_give(rt.alloc(), model, script, code, printed)?,
+            "{model} {script}"
+        );
+    }
     Ok(())
 }
 
@@ -271,6 +350,26 @@ fn a_world_that_never_fails(rt: HostRuntime) -> Result<(), Fail> {
     assert_eq!(rt; surely(rt.alloc(), Some(SQUARE))?, (0, SQUARE.len()));
     assert_eq!(rt; surely(rt.alloc(), None)?, (0, 0));
     assert_eq!(rt; surely(rt.alloc(), Some("q"))?, (3, 99));
+    Ok(())
+}
+
+// Whether a corner is cut in a world that never fails and handles at most so many bytes.
+fn cuts_surely(alloc: Global, most: usize) -> Result<bool, NoMemory> {
+    let mut world = SureWorld::new(alloc);
+    world.add_file("model", SQUARE.as_bytes())?;
+    world.add_file("script", CUT.as_bytes())?;
+    if most > 0 {
+        world.limit_pieces(most);
+    }
+    let ended = run_words(alloc, &WORDS, &mut world)?;
+    Ok(ended == (0, 1) && world.printed_bytes() == CUT_REPORT.as_bytes())
+}
+
+#[test]
+fn pieces_in_a_world_that_never_fails(rt: HostRuntime) -> Result<(), Fail> {
+    for most in [1, 7] {
+        assert!(rt; cuts_surely(rt.alloc(), most)?, "{most} bytes");
+    }
     Ok(())
 }
 

@@ -6,6 +6,10 @@ use crate::fault::WorldFault;
 use obj_text::Sink;
 
 /// Files and a place to print on. As a sink it is the file that `start_write` began.
+///
+/// `Failed` comes only where a count of faults rose in the call: that of input in `start_read` and
+/// `read`, that of output in the others. No other answer changes a count, and after `NoMemory` all
+/// that is told is as before. An empty piece is answered by 0, and changes nothing.
 pub trait World: Sink {
     /// All that it tells.
     ghost told: { Self → Told };
