@@ -1,5 +1,5 @@
 -- How the stages of a run make the whole.
-use Rattle.std.proofs.Common.{◌≡◌, ℕ, ◌+◌, min, inl, inr, true, false, List, [], ◌++◌, length, take, refl, sym, ap, ◌∙◌, arith, append_assoc, Some, None, Result, Ok, Err, true≢false}
+use Rattle.std.proofs.Common.{◌≡◌, ℕ, ◌+◌, min, inl, inr, Bool, true, false, List, [], ◌++◌, length, take, refl, sym, ap, ◌∙◌, arith, append_assoc, Some, None, Result, Ok, Err, true≢false}
 use Rattle.std.proofs.Math.Seq.{take-length, take-append-add}
 use Rattle.std.proofs.lemmas.List.{take-append-le, take_all}
 use Rattle.std.proofs.lemmas.Bool.{cases_lt}
@@ -14,9 +14,9 @@ use Rattle.mesh_model.specs.Complex.{Complex}
 use Rattle.obj_text.specs.declared.obj_fault.ObjRefusal.{ObjRefusal}
 use Rattle.script_text.specs.declared.commands.Script.{Script}
 use Rattle.script_text.specs.declared.fault.ScriptRefusal.{ScriptRefusal}
-use Rattle.bmesh_cli.specs.Job.{job_of, out_of}
-use Rattle.bmesh_cli.specs.Run.{Outcome, refuses, concludes, delivers, with_script, with_model, outcome, model_line, script_line, usage_line}
-use Rattle.bmesh_cli.specs.Ends.{is_answer, made_with, Caused, AsksFor, Ends}
+use Rattle.bmesh_cli.specs.Job.{Job, job_of, starts_if, out_of}
+use Rattle.bmesh_cli.specs.Run.{Outcome, model_of, script_named, refuses, concludes, delivers, with_script, with_model, outcome, model_line, script_line, usage_line}
+use Rattle.bmesh_cli.specs.Ends.{is_answer, is_past_model, is_past_script, made_with, begun_after, Caused, AsksFor, Ends}
 use Rattle.bmesh_cli.specs.Whole.{KeepsCounts, OnlyReads, OnlyWrites, MakesPart, PrintsPart}
 use Rattle.bmesh_cli.specs.declared.start.Start.{Start}
 use Rattle.bmesh_cli.specs.declared.start.Purpose.TheVariants.{Writing}
@@ -28,11 +28,13 @@ pub ends_after : (o : Outcome) (out : List ℕ) (status : Status) (final : State
 ends_after o out status final old mid new only h =
     let made : mid.made ≡ old.made = ap (λ (t : Told). t.made) only in
     let printed : mid.printed ≡ old.printed = ap (λ (t : Told). t.printed) only in
+    let begun : mid.begun ≡ old.begun = ap (λ (t : Told). t.begun) only in
     record {
       answer = h.answer;
       session = h.session;
       all = λ is. let all = h.all is in record {
         made = all.made ∙ ap (made_with out o.made) made;
+        begun = all.begun ∙ ap (begun_after o.made) begun;
         printed = all.printed ∙ ap (λ p. with_after p o.printed) printed;
       };
       part = elim h.part [
@@ -45,6 +47,7 @@ ends_after o out status final old mid new only h =
         })
         | inr late ↦ inr (record {
           made = late.made ∙ ap (made_with out o.made) made;
+          begun = late.begun ∙ ap (begun_after o.made) begun;
           printed = (late.printed.0, late.printed.1 ∙ ap (λ p. with_after p (take late.printed.0 o.printed)) printed);
         })
       ];
@@ -79,6 +82,22 @@ take_least a b n = take-append-le (min n (length a)) a b (omega arith) ∙ take_
 -- of a stage's files some were asked for
 pub asks_first : (a b : List Start) (old new : Told) → AsksFor a old new → AsksFor (a ++ b) old new
 asks_first a b old new h = (min h.0 (length a), h.1 ∙ ap (λ (s : List Start). old.started ++ s) (sym (take_least a b h.0)))
+
+-- the files of a stage were asked for, what they hold was accepted, and then some of the next ones were asked for
+pub asks_past : (accepted : Bool) (a b : List Start) (old mid new : Told) → accepted ≡ true → mid.started ≡ old.started ++ a → AsksFor b mid new → AsksFor (a ++ starts_if accepted b) old new
+asks_past true a b old mid new is first then = asks_after a b old mid new first then
+asks_past false a b old mid new is first then = cc
+
+-- a run that went past the script went past the model
+pub past_both : (status : Status) → is_past_script status ≡ true → is_past_model status ≡ true
+past_both Done h = refl
+past_both SomeRefused h = refl
+past_both Usage h = cc
+past_both (ModelRefused r) h = cc
+past_both (ScriptRefused r) h = refl
+past_both InFault h = refl
+past_both OutFault h = refl
+past_both NoMemory h = refl
 
 -- memory ran out before anything was made or printed
 pub ends_without_memory : (o : Outcome) (out : List ℕ) (final : State) (old new : Told) → new.made ≡ old.made → new.printed ≡ old.printed → Ends o out NoMemory final old new
@@ -122,15 +141,18 @@ pub ends_written : (o : Outcome) (out text : List ℕ) (status : Status) (final 
 ends_written o out text status final old mid new some wrote answer all same part =
     let made : mid.made ≡ made_with out o.made old.made = ap (λ (t : Told). t.made) wrote ∙ ap (λ m. made_with out m old.made) (sym some) in
     let printed : mid.printed ≡ old.printed = ap (λ (t : Told). t.printed) wrote in
+    let begun : mid.begun ≡ begun_after o.made old.begun = ap (λ (t : Told). t.begun) wrote ∙ ap (λ m. begun_after m old.begun) (sym some) in
     record {
       answer = answer;
       session = λ _. same;
       all = λ is. record {
         made = ap (λ (t : Told). t.made) (all is) ∙ made;
+        begun = ap (λ (t : Told). t.begun) (all is) ∙ begun;
         printed = ap (λ (t : Told). t.printed) (all is) ∙ ap (λ p. with_after p o.printed) printed;
       };
       part = inr (record {
         made = ap (λ (t : Told). t.made) part.1 ∙ made;
+        begun = ap (λ (t : Told). t.begun) part.1 ∙ begun;
         printed = (part.0, ap (λ (t : Told). t.printed) part.1 ∙ ap (λ p. with_after p (take part.0 o.printed)) printed);
       });
       out_fault = λ _. same;
@@ -142,8 +164,8 @@ pub ends_refused : (refused status : Status) (line out : List ℕ) (old new : To
 ends_refused refused status line out old new answer all part = record {
   answer = answer;
   session = λ _. refl;
-  all = λ is. record { made = ap (λ (t : Told). t.made) (all is); printed = ap (λ (t : Told). t.printed) (all is) };
-  part = inr (record { made = ap (λ (t : Told). t.made) part.1; printed = (part.0, ap (λ (t : Told). t.printed) part.1) });
+  all = λ is. record { made = ap (λ (t : Told). t.made) (all is); begun = ap (λ (t : Told). t.begun) (all is); printed = ap (λ (t : Told). t.printed) (all is) };
+  part = inr (record { made = ap (λ (t : Told). t.made) part.1; begun = ap (λ (t : Told). t.begun) part.1; printed = (part.0, ap (λ (t : Told). t.printed) part.1) });
   out_fault = λ _. refl;
 }
 
@@ -169,6 +191,11 @@ ends_model_refused r model script out status final old new is h = rw is h
 -- words that are not accepted
 pub ends_words : (words : List (List ℕ)) (files : Files) (status : Status) (final : State) (old new : Told) → job_of words ≡ None → Ends (refuses Usage usage_line) [] status final old new → Ends (outcome words files) (out_of (job_of words)) status final old new
 ends_words words files status final old new is h = rw is h
+
+-- words that are accepted
+pub ends_job : (words : List (List ℕ)) (job : Job) (files : Files) (status : Status) (final : State) (old new : Told) → job_of words ≡ Some job → Ends (with_model (model_of job.model files) (script_named job.script files)) job.out status final old new
+    → Ends (outcome words files) (out_of (job_of words)) status final old new
+ends_job words job files status final old new is h = rw is h
 
 -- the commands of a script were given, and their replies concluded
 pub ends_delivered : (c : Complex) (s : Script) (start : State) (commands : List Command) (replies : List Reply) (out : List ℕ) (status : Status) (final : State) (old new : Told) → start ≡ loaded c → commands ≡ s.commands

@@ -45,10 +45,15 @@ script_starts name = if is_tour name then [] else record { name = name; purpose 
 abbrev pub out_starts : List ℕ → List Start
 out_starts name = record { name = name; purpose = Writing } ∷ []
 
--- all files of a command line, in the order in which they are asked for
-abbrev pub starts_of : Option Job → List Start
-starts_of None = []
-starts_of (Some job) = model_starts job.model ++ (script_starts job.script ++ out_starts job.out)
+-- further files, where what was read so far was accepted
+abbrev pub starts_if : Bool → List Start → List Start
+starts_if accepted starts = if accepted then starts else []
+
+-- the files of a command line in the order in which they are asked for, the script only where the model was accepted, and OUT only
+-- where the script was too
+abbrev pub starts_of : Option Job → Bool → Bool → List Start
+starts_of None model script = []
+starts_of (Some job) model script = model_starts job.model ++ starts_if model (script_starts job.script ++ starts_if script (out_starts job.out))
 
 -- the name of the file to write, and no name where the words are not accepted
 abbrev pub out_of : Option Job → List ℕ

@@ -1,5 +1,5 @@
 -- What a whole run gives, from its words and the files' bytes.
-use Rattle.std.specs.Prelude.{ℕ, if◌then◌else◌, codes, List, ◌++◌, Result, Ok, Err}
+use Rattle.std.specs.Prelude.{ℕ, if◌then◌else◌, codes, is_ok, List, [], ◌++◌, Result, Ok, Err}
 use Rattle.std.specs.Fmt.{decimal}
 use Rattle.std.specs.List.{list_any}
 use Rattle.std.specs.declared.option.Option.{Option}
@@ -19,8 +19,9 @@ use Rattle.script_text.specs.declared.commands.Script.{Script}
 use Rattle.script_text.specs.declared.fault.ScriptRefusal.{ScriptRefusal}
 use Rattle.script_text.specs.declared.fault.ScriptWhy.TheVariants as script_why
 use Rattle.bmesh_cli.specs.Files.{Files, bytes_of}
-use Rattle.bmesh_cli.specs.Job.{Job, job_of, is_grid, is_tour}
+use Rattle.bmesh_cli.specs.Job.{Job, job_of, is_grid, is_tour, starts_of}
 use Rattle.bmesh_cli.specs.Report.{report, is_refused}
+use Rattle.bmesh_cli.specs.declared.start.Start.{Start}
 use Rattle.bmesh_cli.specs.declared.status.Status.{Status}
 use Rattle.bmesh_cli.specs.declared.status.Status.TheVariants.{Done, SomeRefused, Usage, ModelRefused, ScriptRefused}
 
@@ -82,6 +83,11 @@ with_model (Ok c) script = with_script c script
 abbrev pub with_job : Files → Option Job → Outcome
 with_job files None = refuses Usage usage_line
 with_job files (Some job) = with_model (model_of job.model files) (script_named job.script files)
+
+-- the files that a run asks for
+abbrev pub starts_in_turn : Option Job → Files → List Start
+starts_in_turn None files = []
+starts_in_turn (Some job) files = starts_of (Some job) (is_ok (model_of job.model files)) (is_ok (script_named job.script files))
 
 -- what a run gives
 abbrev pub outcome : List (List ℕ) → Files → Outcome

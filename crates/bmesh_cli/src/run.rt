@@ -1,13 +1,13 @@
 //! The whole run.
 
-ghost use Rattle.std.specs.Prelude.{◌≡◌, ◌⊎◌, ◌++◌, ℕ, List, true, false, None, Some, Ok, length, map, if◌then◌else◌};
+ghost use Rattle.std.specs.Prelude.{◌≡◌, ◌⊎◌, ◌++◌, ℕ, List, true, false, None, Some, Ok, is_ok, length, map, if◌then◌else◌};
 ghost use Rattle.std.specs.String.{string_bytes};
 ghost use Rattle.mesh_model.specs.Valid.{IsSimple};
 ghost use Rattle.mesh_session.specs.State.{fresh, IsSoundState};
 ghost use Rattle.bmesh_cli.specs.Files.{Files};
-ghost use Rattle.bmesh_cli.specs.Job.{job_of, script_starts, out_starts, model_starts, starts_of, out_of};
-ghost use Rattle.bmesh_cli.specs.Run.{model_of, script_named, model_line, script_line, refuses, concludes, delivers, with_script, with_model, usage_line, outcome};
-ghost use Rattle.bmesh_cli.specs.Ends.{is_answer, is_delivered, Ends, LeavesAll, Caused, AsksFor, IsOnTheWay, IsPartOf, IsPartOfRun, RefusesWords, Completes};
+ghost use Rattle.bmesh_cli.specs.Job.{job_of, script_starts, out_starts, model_starts, starts_if, starts_of, out_of};
+ghost use Rattle.bmesh_cli.specs.Run.{model_of, script_named, model_line, script_line, refuses, concludes, delivers, with_script, with_model, usage_line, starts_in_turn, outcome};
+ghost use Rattle.bmesh_cli.specs.Ends.{is_answer, is_delivered, is_past_model, is_past_script, Ends, LeavesAll, Caused, AsksFor, IsOnTheWay, IsPartOf, IsPartOfRun, RefusesWords, Completes};
 ghost use Rattle.bmesh_cli.specs.Report.{report, is_refused};
 ghost use Rattle.bmesh_cli.specs.Whole.{PrintsPart, OnlyPrints};
 ghost use Rattle.obj_text.specs.Told.{with_after};
@@ -51,14 +51,18 @@ pub fn run<W: World>(
         → IsPartOfRun (job_of (map string_bytes words.now)) files session.new }
     ensures usage { RefusesWords (job_of (map string_bytes words.now)) result }
     ensures cause { Caused result (W.told world.old) (W.told world.new) }
-    ensures asked { AsksFor (starts_of (job_of (map string_bytes words.now))) (W.told world.old) (W.told world.new) }
+    ensures asked { AsksFor (starts_of (job_of (map string_bytes words.now)) (is_past_model result) (is_past_script result)) (W.told world.old) (W.told world.new) }
+    ensures in_turn { (files : Files) → (W.told world.old).files ≡ Some files
+        → AsksFor (starts_in_turn (job_of (map string_bytes words.now)) files) (W.told world.old) (W.told world.new) }
     ensures finished { is_delivered result ≡ true → (W.told world.new).begun ≡ None }
     ensures complete { (files : Files) → (W.told world.old).files ≡ Some files
         → Completes (outcome (map string_bytes words.now) files) result (W.told world.old) (W.told world.new) }
     ensures sound { IsSoundState session.new }
 {
-    let status = run_words(alloc, words, session, world);
-    status
+    match job_of(words) {
+        Some(job) => run_job(alloc, job, session, world),
+        None => refuse_words(world),
+    }
 }
 
 /// The same over a world that never fails.
@@ -76,31 +80,6 @@ pub fn run_surely(
     status
 }
 
-// The same but for what follows from the rest.
-fn run_words<W: World>(
-    alloc: Global,
-    words: &[String],
-    session: &mut Session,
-    world: &mut W,
-) -> Status
-    requires { session.old ≡ fresh }
-    ensures ends { (files : Files) → (W.told world.old).files ≡ Some files
-        → Ends (outcome (map string_bytes words.now) files) (out_of (job_of (map string_bytes words.now))) result session.new (W.told world.old) (W.told world.new) }
-    ensures in_fault { result ≡ Status.InFault → LeavesAll session.new (W.told world.old) (W.told world.new) }
-    ensures no_memory { result ≡ Status.NoMemory → (files : Files) → (W.told world.old).files ≡ Some files
-        → IsPartOfRun (job_of (map string_bytes words.now)) files session.new }
-    ensures usage { RefusesWords (job_of (map string_bytes words.now)) result }
-    ensures cause { Caused result (W.told world.old) (W.told world.new) }
-    ensures asked { AsksFor (starts_of (job_of (map string_bytes words.now))) (W.told world.old) (W.told world.new) }
-    ensures finished { is_delivered result ≡ true → (W.told world.new).begun ≡ None }
-    ensures sound { IsSoundState session.new }
-{
-    match job_of(words) {
-        Some(job) => run_job(alloc, job, session, world),
-        None => refuse_words(world),
-    }
-}
-
 // With accepted words: reads the model.
 fn run_job<W: World>(alloc: Global, job: Job<'_>, session: &mut Session, world: &mut W) -> Status
     requires { session.old ≡ fresh }
@@ -111,7 +90,9 @@ fn run_job<W: World>(alloc: Global, job: Job<'_>, session: &mut Session, world: 
         → IsPartOf (model_of job.entry.model.now files) (script_named job.entry.script.now files) session.new }
     ensures accepted { result ≡ Status.Usage → ⊥ }
     ensures cause { Caused result (W.told world.old) (W.told world.new) }
-    ensures asked { AsksFor (model_starts job.entry.model.now ++ (script_starts job.entry.script.now ++ out_starts job.entry.out.now)) (W.told world.old) (W.told world.new) }
+    ensures asked { AsksFor (model_starts job.entry.model.now ++ starts_if (is_past_model result) (script_starts job.entry.script.now ++ starts_if (is_past_script result) (out_starts job.entry.out.now))) (W.told world.old) (W.told world.new) }
+    ensures in_turn { (files : Files) → (W.told world.old).files ≡ Some files
+        → AsksFor (model_starts job.entry.model.now ++ starts_if (is_ok (model_of job.entry.model.now files)) (script_starts job.entry.script.now ++ starts_if (is_ok (script_named job.entry.script.now files)) (out_starts job.entry.out.now))) (W.told world.old) (W.told world.new) }
     ensures finished { is_delivered result ≡ true → (W.told world.new).begun ≡ None }
     ensures sound { IsSoundState session.new }
 {
@@ -139,9 +120,11 @@ fn run_model<W: World>(
     ensures in_fault { result ≡ Status.InFault → LeavesAll session.new (W.told world.old) (W.told world.new) }
     ensures no_memory { result ≡ Status.NoMemory → (files : Files) → (W.told world.old).files ≡ Some files
         → IsPartOf (Ok draft.now) (script_named script.now files) session.new }
-    ensures accepted { result ≡ Status.Usage → ⊥ }
+    ensures accepted { is_past_model result ≡ true }
     ensures cause { Caused result (W.told world.old) (W.told world.new) }
-    ensures asked { AsksFor (script_starts script.now ++ out_starts out.now) (W.told world.old) (W.told world.new) }
+    ensures asked { AsksFor (script_starts script.now ++ starts_if (is_past_script result) (out_starts out.now)) (W.told world.old) (W.told world.new) }
+    ensures in_turn { (files : Files) → (W.told world.old).files ≡ Some files
+        → AsksFor (script_starts script.now ++ starts_if (is_ok (script_named script.now files)) (out_starts out.now)) (W.told world.old) (W.told world.new) }
     ensures finished { is_delivered result ≡ true → (W.told world.new).begun ≡ None }
     ensures sound { IsSoundState session.new }
 {
@@ -166,7 +149,7 @@ fn deliver<W: World>(
     requires simple { IsSimple draft.now }
     ensures ends { Ends (delivers draft.now script.now) out.now result session.new (W.told world.old) (W.told world.new) }
     ensures no_memory { result ≡ Status.NoMemory → (session.new ≡ fresh) ⊎ IsOnTheWay draft.now script.now session.new }
-    ensures goes_on { (result ≡ Status.InFault → ⊥) × (result ≡ Status.Usage → ⊥) }
+    ensures goes_on { is_past_script result ≡ true }
     ensures cause { Caused result (W.told world.old) (W.told world.new) }
     ensures asked { AsksFor (out_starts out.now) (W.told world.old) (W.told world.new) }
     ensures finished { is_delivered result ≡ true → (W.told world.new).begun ≡ None }
@@ -194,7 +177,7 @@ fn conclude<W: World>(
     requires sound { IsSoundState session.now }
     requires long { length replies.now ≡ length commands.now }
     ensures ends { Ends (concludes commands.now replies.now session.now) out.now result session.now (W.told world.old) (W.told world.new) }
-    ensures goes_on { (result ≡ Status.InFault → ⊥) × (result ≡ Status.Usage → ⊥) }
+    ensures goes_on { is_past_script result ≡ true }
     ensures cause { Caused result (W.told world.old) (W.told world.new) }
     ensures asked { AsksFor (out_starts out.now) (W.told world.old) (W.told world.new) }
     ensures finished { is_delivered result ≡ true → (W.told world.new).begun ≡ None }
@@ -218,7 +201,7 @@ fn print_report<W: World>(
     ensures status { is_answer result ≡ true → result ≡ (concludes commands.now replies.now session.now).status }
     ensures all { is_answer result ≡ true → W.told world.new ≡ record (W.told world.old) { printed = with_after (W.told world.old).printed (report commands.now replies.now session.now) } }
     ensures part { PrintsPart (W.told world.old) (W.told world.new) (report commands.now replies.now session.now) }
-    ensures goes_on { (result ≡ Status.InFault → ⊥) × (result ≡ Status.Usage → ⊥) }
+    ensures goes_on { is_past_script result ≡ true }
     ensures cause { Caused result (W.told world.old) (W.told world.new) }
 {
     let Ok(text) = report(alloc, commands, replies, session) else {
@@ -280,7 +263,7 @@ fn refuse_model<W: World>(alloc: Global, refusal: ObjRefusal, world: &mut W) -> 
 fn refuse_script<W: World>(alloc: Global, refusal: ScriptRefusal, world: &mut W) -> Status
     ensures ends { (out : List ℕ) → Ends (refuses (Status.ScriptRefused refusal) (script_line refusal)) out result fresh (W.told world.old) (W.told world.new) }
     ensures only { OnlyPrints (W.told world.old) (W.told world.new) }
-    ensures goes_on { (result ≡ Status.InFault → ⊥) × (result ≡ Status.Usage → ⊥) × (is_delivered result ≡ false) }
+    ensures goes_on { (result ≡ Status.InFault → ⊥) × (is_past_model result ≡ true) × (is_delivered result ≡ false) }
     ensures cause { Caused result (W.told world.old) (W.told world.new) }
 {
     let line = refusal.line;
