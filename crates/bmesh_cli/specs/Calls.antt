@@ -5,6 +5,7 @@ use Rattle.std.specs.Option.{option_map}
 use Rattle.std.specs.declared.option.Option.TheVariants.{None, Some}
 use Rattle.obj_text.specs.Told.{with_after}
 use Rattle.obj_text.specs.Causes.{Rose}
+use Rattle.bmesh_cli.specs.Faults.{one_more}
 use Rattle.bmesh_cli.specs.Files.{bytes_of, put}
 use Rattle.bmesh_cli.specs.Told.{Told, asked}
 use Rattle.bmesh_cli.specs.declared.fault.WorldFault.{WorldFault}
@@ -71,3 +72,15 @@ Prints old new from (Ok n) = (n ≤ length from) × (0 < length from → 0 < n)
     × (new ≡ record old { printed = with_after old.printed (take n from) })
 Prints old new from (Err Failed) = FailsOut old new
 Prints old new from (Err NoMemory) = new ≡ old
+
+-- a call that fails counts one fault of input, and no other call counts any
+abbrev pub CountsIn : {T : Type 0} → Result T WorldFault → Told → Told → Type 0
+CountsIn (Ok _) old new = new.in_faults ≡ old.in_faults
+CountsIn (Err Failed) old new = new.in_faults ≡ one_more old.in_faults
+CountsIn (Err NoMemory) old new = new.in_faults ≡ old.in_faults
+
+-- a call that fails counts one fault of output, and no other call counts any
+abbrev pub CountsOut : {T : Type 0} → Result T WorldFault → Told → Told → Type 0
+CountsOut (Ok _) old new = new.out_faults ≡ old.out_faults
+CountsOut (Err Failed) old new = new.out_faults ≡ one_more old.out_faults
+CountsOut (Err NoMemory) old new = new.out_faults ≡ old.out_faults

@@ -1,8 +1,8 @@
 -- The worlds in memory: what they are seen as, and which of their calls fail.
-use Rattle.std.specs.Prelude.{ℕ, ◌≡◌, ◌+◌, ◌-◌, ◌^◌, ◌⊎◌, List, Contains, Result, Ok, Err, IsSome, min}
+use Rattle.std.specs.Prelude.{ℕ, ◌≡◌, ◌⊎◌, List, Contains, Result, Ok, Err, IsSome}
 use Rattle.std.specs.Option.{option_and_then}
 use Rattle.obj_text.specs.declared.write_fault.WriteFault.{WriteFault}
-use Rattle.bmesh_cli.specs.Faults.{fault_of}
+use Rattle.bmesh_cli.specs.Faults.{fault_of, one_more}
 use Rattle.bmesh_cli.specs.Files.{entry_of}
 use Rattle.bmesh_cli.specs.Told.{Told}
 use Rattle.bmesh_cli.specs.declared.fault.WorldFault.{WorldFault}
@@ -24,10 +24,6 @@ pub record SureState : Type 0 where
 -- what is told, with counts of 0
 abbrev pub sure_told : SureState → Told
 sure_told s = record s.told { in_faults = 0; out_faults = 0 }
-
--- one call more, where the count is not at its type's end
-abbrev pub one_more : ℕ → ℕ
-one_more calls = min (calls + 1) (2 ^ 64 - 1)
 
 -- the next call that is counted is to fail
 abbrev pub IsToFail : MemoryState → Type 0

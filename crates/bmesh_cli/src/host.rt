@@ -1,8 +1,10 @@
 ghost use Rattle.std.specs.Prelude.{◌≡◌, ◌<◌, ◌≤◌, [], length, take, OnOk, OnErr, IfOk, IfErr};
-ghost use Rattle.obj_text.specs.Told.{with_after};
 ghost use Rattle.obj_text.specs.Causes.{CountsFault};
+ghost use Rattle.obj_text.specs.Told.{with_after};
 ghost use Rattle.bmesh_cli.specs.Told.{asked, wrote_of, rest_of};
-ghost use Rattle.bmesh_cli.specs.Calls.{FailsIn, FailsOut, Finishes};
+ghost use Rattle.bmesh_cli.specs.Calls.{FailsIn, FailsOut, StartsRead, ReadsNext, StartsWrite, Finishes, Prints, IsIdle, CountsIn, CountsOut};
+ghost use Rattle.bmesh_cli.specs.Faults.{one_more};
+ghost use Rattle.bmesh_cli.specs.Memory.{as_world};
 ghost use Rattle.bmesh_cli.specs.declared.fault.WorldFault.TheVariants.{NoMemory};
 
 use crate::bytes::Bytes;
@@ -94,7 +96,8 @@ impl HostWorld {
     // Counts a fault of input.
     fn fail_in(&mut self) -> WorldFault
         ensures fault { result ≡ WorldFault.Failed }
-        ensures count { FailsIn self.old self.new }
+        ensures told { FailsIn self.old self.new }
+        ensures one { self.new.in_faults ≡ one_more self.old.in_faults }
     {
         self.in_faults = self.in_faults.saturating_add(1);
         WorldFault::Failed
@@ -103,7 +106,8 @@ impl HostWorld {
     // Counts a fault of output.
     fn fail_out(&mut self) -> WorldFault
         ensures fault { result ≡ WorldFault.Failed }
-        ensures count { FailsOut self.old self.new }
+        ensures told { FailsOut self.old self.new }
+        ensures one { self.new.out_faults ≡ one_more self.old.out_faults }
     {
         self.out_faults = self.out_faults.saturating_add(1);
         WorldFault::Failed
@@ -127,9 +131,11 @@ impl Sink for HostWorld {
         ensures some { IfOk result (λ n. 0 < length from.now → 0 < n) }
         ensures wrote { IfOk result (λ n. wrote_of self.new ≡ with_after (wrote_of self.old) (take n from.now)) }
         ensures fault { OnErr result (wrote_of self.new ≡ wrote_of self.old) }
-        ensures empty { length from.now ≡ 0 → (result ≡ Ok 0) × (wrote_of self.new ≡ wrote_of self.old) }
+        ensures empty { length from.now ≡ 0 → (result ≡ Ok 0) × (self.new ≡ self.old) }
         ensures others { rest_of self.new ≡ rest_of self.old }
         ensures cause { CountsFault result self.old.out_faults self.new.out_faults }
+
+        ensures faults { CountsOut (as_world result) self.old self.new }
         ensures nowhere { self.old.begun ≡ None → (result ≡ Ok (length from.now)) × (self.new ≡ self.old) }
     {
         if from.is_empty() {
@@ -157,7 +163,10 @@ impl World for HostWorld {
 
     ghost others_is_rest = { λ v w same. same };
 
-    fn start_read(&mut self, name: &str) -> Result<(), WorldFault> {
+    fn start_read(&mut self, name: &str) -> Result<(), WorldFault>
+        ensures told { StartsRead self.old self.new name.now result }
+        ensures faults { CountsIn result self.old self.new }
+    {
         self.note(name, Purpose::Reading)?;
         match fs::open(&self.rt, name) {
             Ok(file) => {
@@ -168,7 +177,11 @@ impl World for HostWorld {
         }
     }
 
-    fn read(&mut self, into: &mut [u8]) -> Result<usize, WorldFault> {
+    fn read(&mut self, into: &mut [u8]) -> Result<usize, WorldFault>
+        ensures next { ReadsNext self.old self.new into.new result }
+        ensures empty { IsIdle self.old self.new into.old result }
+        ensures faults { CountsIn result self.old self.new }
+    {
         if into.is_empty() {
             return Ok(0);
         }
@@ -181,7 +194,10 @@ impl World for HostWorld {
         }
     }
 
-    fn start_write(&mut self, name: &str) -> Result<(), WorldFault> {
+    fn start_write(&mut self, name: &str) -> Result<(), WorldFault>
+        ensures told { StartsWrite self.old self.new name.now result }
+        ensures faults { CountsOut result self.old self.new }
+    {
         let begun = Bytes::of(self.rt.alloc(), name.as_bytes())?;
         self.note(name, Purpose::Writing)?;
         match fs::create(&self.rt, name) {
@@ -195,7 +211,8 @@ impl World for HostWorld {
 
     // With no file begun nothing is done.
     fn finish(&mut self) -> Result<(), WorldFault>
-        ensures ended { Finishes self.old self.new result }
+        ensures told { Finishes self.old self.new result }
+        ensures faults { CountsOut result self.old self.new }
         ensures nothing { self.old.begun ≡ None → (result ≡ Ok tt) × (self.new ≡ self.old) }
     {
         let flushed = match &mut self.writing {
@@ -209,7 +226,11 @@ impl World for HostWorld {
         }
     }
 
-    fn print(&mut self, from: &[u8]) -> Result<usize, WorldFault> {
+    fn print(&mut self, from: &[u8]) -> Result<usize, WorldFault>
+        ensures some { Prints self.old self.new from.now result }
+        ensures empty { IsIdle self.old self.new from.now result }
+        ensures faults { CountsOut result self.old self.new }
+    {
         if from.is_empty() {
             return Ok(0);
         }

@@ -3,9 +3,10 @@ ghost use Rattle.std.specs.Option.{option_map, option_and_then, option_copied};
 ghost use Rattle.obj_text.specs.Causes.{CountsFault};
 ghost use Rattle.obj_text.specs.Told.{with_after};
 ghost use Rattle.bmesh_cli.specs.Files.{entry_of, put};
-ghost use Rattle.bmesh_cli.specs.Calls.{FailsIn, FailsOut, StartsRead, ReadsNext, StartsWrite, Finishes, Prints};
+ghost use Rattle.bmesh_cli.specs.Calls.{FailsIn, FailsOut, StartsRead, ReadsNext, StartsWrite, Finishes, Prints, CountsIn, CountsOut};
 ghost use Rattle.bmesh_cli.specs.Told.{wrote_of, rest_of};
-ghost use Rattle.bmesh_cli.specs.Memory.{IsToFail, CountsCall, Counts, FailsByNumber, FailsByName, one_more, as_world};
+ghost use Rattle.bmesh_cli.specs.Faults.{one_more};
+ghost use Rattle.bmesh_cli.specs.Memory.{IsToFail, CountsCall, Counts, FailsByNumber, FailsByName, as_world};
 
 use crate::fault::WorldFault;
 use crate::start::Purpose;
@@ -132,6 +133,7 @@ impl MemoryWorld {
     // Counts a call, and a fault of input.
     fn fail_in(&mut self)
         ensures told { FailsIn self.old.told self.new.told }
+        ensures one { self.new.told.in_faults ≡ one_more self.old.told.in_faults }
         ensures counted { CountsCall self.old self.new }
     {
         self.calls = self.calls.saturating_add(1);
@@ -141,6 +143,7 @@ impl MemoryWorld {
     // Counts a call, and a fault of output.
     fn fail_out(&mut self)
         ensures told { FailsOut self.old.told self.new.told }
+        ensures one { self.new.told.out_faults ≡ one_more self.old.told.out_faults }
         ensures counted { CountsCall self.old self.new }
     {
         self.calls = self.calls.saturating_add(1);
@@ -173,6 +176,7 @@ impl Sink for MemoryWorld {
         ensures idle { length from.now ≡ 0 → self.new ≡ self.old }
         ensures counted { 0 < length from.now → Counts (as_world result) self.old self.new }
         ensures exact { 0 < length from.now → FailsByNumber (as_world result) self.old }
+        ensures faults { CountsOut (as_world result) self.old.told self.new.told }
     {
         if from.is_empty() {
             return Ok(0);
@@ -200,6 +204,7 @@ impl World for MemoryWorld {
         ensures told { StartsRead self.old.told self.new.told name.now result }
         ensures counted { Counts result self.old self.new }
         ensures exact { FailsByName result self.old name.now }
+        ensures faults { CountsIn result self.old.told self.new.told }
     {
         if self.is_to_fail() {
             self.store.note(name.as_bytes(), Purpose::Reading)?;
@@ -223,6 +228,7 @@ impl World for MemoryWorld {
         ensures idle { length into.old ≡ 0 → self.new ≡ self.old }
         ensures counted { 0 < length into.old → Counts result self.old self.new }
         ensures exact { 0 < length into.old → FailsByNumber result self.old }
+        ensures faults { CountsIn result self.old.told self.new.told }
     {
         if into.is_empty() {
             return Ok(0);
@@ -240,6 +246,7 @@ impl World for MemoryWorld {
         ensures told { StartsWrite self.old.told self.new.told name.now result }
         ensures counted { Counts result self.old self.new }
         ensures exact { FailsByNumber result self.old }
+        ensures faults { CountsOut result self.old.told self.new.told }
     {
         if self.is_to_fail() {
             self.store.note(name.as_bytes(), Purpose::Writing)?;
@@ -255,6 +262,7 @@ impl World for MemoryWorld {
         ensures told { Finishes self.old.told self.new.told result }
         ensures counted { Counts result self.old self.new }
         ensures exact { FailsByNumber result self.old }
+        ensures faults { CountsOut result self.old.told self.new.told }
     {
         if self.is_to_fail() {
             self.fail_out();
@@ -272,6 +280,7 @@ impl World for MemoryWorld {
         ensures idle { length from.now ≡ 0 → self.new ≡ self.old }
         ensures counted { 0 < length from.now → Counts result self.old self.new }
         ensures exact { 0 < length from.now → FailsByNumber result self.old }
+        ensures faults { CountsOut result self.old.told self.new.told }
     {
         if from.is_empty() {
             return Ok(0);
