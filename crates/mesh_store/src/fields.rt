@@ -1,5 +1,6 @@
-//! One reader and one writer for each field. All take constant time and no memory, and their slots have to be live.
-ghost use Rattle.std.specs.Prelude.{◌≡◌, ◌<◌, ◌^◌, Some, length};
+//! One reader and one writer for each field, whose slots have to be live, and tests for that. All take constant time and no
+//! memory.
+ghost use Rattle.std.specs.Prelude.{◌≡◌, ◌<◌, ◌^◌, ◌↔◌, Some, IsTrue, length};
 ghost use Rattle.std.specs.Option.{option_map};
 ghost use Rattle.raw_pool.specs.Slots.{IsLive};
 ghost use Rattle.mesh_store.specs.Slots.{at};
@@ -10,6 +11,13 @@ use raw_pool::Slot;
 
 /// Vertices.
 impl Store {
+    /// Whether a slot is that of a live vertex.
+    pub fn has_vert(&self, s: Slot) -> bool
+        ensures { IsTrue result ↔ IsLive self.now.verts.cells s.0 }
+    {
+        self.verts.contains(s)
+    }
+
     /// The number of a vertex's name.
     pub fn vert_number(&self, s: Slot) -> u32
         requires { IsLive self.now.verts.cells s.0 }
@@ -57,6 +65,13 @@ impl Store {
 
 /// Edges.
 impl Store {
+    /// Whether a slot is that of a live edge.
+    pub fn has_edge(&self, s: Slot) -> bool
+        ensures { IsTrue result ↔ IsLive self.now.edges.cells s.0 }
+    {
+        self.edges.contains(s)
+    }
+
     /// The number of an edge's name.
     pub fn edge_number(&self, s: Slot) -> u32
         requires { IsLive self.now.edges.cells s.0 }
@@ -104,6 +119,13 @@ impl Store {
 
 /// Loops.
 impl Store {
+    /// Whether a slot is that of a live loop.
+    pub fn has_loop(&self, s: Slot) -> bool
+        ensures { IsTrue result ↔ IsLive self.now.loops s.0 }
+    {
+        self.loops.contains(s)
+    }
+
     /// The vertex at which a loop stands.
     pub fn loop_vert(&self, s: Slot) -> Slot
         requires { IsLive self.now.loops s.0 }
@@ -158,6 +180,13 @@ impl Store {
 
 /// Faces.
 impl Store {
+    /// Whether a slot is that of a live face.
+    pub fn has_face(&self, s: Slot) -> bool
+        ensures { IsTrue result ↔ IsLive self.now.faces.cells s.0 }
+    {
+        self.faces.contains(s)
+    }
+
     /// The number of a face's name.
     pub fn face_number(&self, s: Slot) -> u32
         requires { IsLive self.now.faces.cells s.0 }

@@ -1,5 +1,5 @@
 //! A pool of cells whose elements have names.
-ghost use Rattle.std.specs.Prelude.{◌≡◌, ◌≤◌, ◌<◌, ◌+◌, ◌^◌, [], length, slice_set, Some, None, OnOk, MatchOption};
+ghost use Rattle.std.specs.Prelude.{◌≡◌, ◌≤◌, ◌<◌, ◌+◌, ◌^◌, ◌↔◌, [], length, slice_set, Some, None, IsTrue, OnOk, MatchOption};
 ghost use Rattle.std.specs.Option.{option_map};
 ghost use Rattle.raw_pool.specs.Ownership.{HoldsLink};
 ghost use Rattle.raw_pool.specs.Slots.{IsLive, spare_count, NoneLiveFrom};
@@ -101,6 +101,7 @@ impl<T: Numbered> NamedPool<T> {
     pub(crate) fn slot_from(&self, least: u32) -> Option<Slot>
         ensures slot { MatchOption result (NoneLiveFrom self.now.names least) (LeadsFirst self.now.names least) }
         ensures named { AreNamed T.number self.now.cells self.now.names }
+        ensures few { length self.now.names < 2 ^ 32 }
     {
         for name in least as usize..self.names.len() {
             if let Some(slot) = self.names[name] {
@@ -108,6 +109,13 @@ impl<T: Numbered> NamedPool<T> {
             }
         }
         None
+    }
+
+    /// Whether a slot is live.
+    pub(crate) fn contains(&self, s: Slot) -> bool
+        ensures { IsTrue result ↔ IsLive self.now.cells s.0 }
+    {
+        self.pool.contains(s)
     }
 
     /// The cell of a live slot.

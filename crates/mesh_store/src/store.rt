@@ -204,7 +204,8 @@ impl Store {
     }
 }
 
-/// Names. `named` says that a table leads from the number of each live element to its slot, and from no other number.
+/// Names. `named` says that a table leads from the number of each live element to its slot, and from no other number; `few`
+/// says that each name of the table is a `u32`.
 impl Store {
     /// The slot of a vertex's name, and `None` exactly where the name isn't live. Constant time.
     pub fn vert_slot(&self, name: u32) -> Option<Slot>
@@ -235,6 +236,7 @@ impl Store {
     pub fn vert_from(&self, least: u32) -> Option<Slot>
         ensures slot { MatchOption result (NoneLiveFrom self.now.verts.names least) (LeadsFirst self.now.verts.names least) }
         ensures named { AreNamed (λ c. c.number) self.now.verts.cells self.now.verts.names }
+        ensures few { length self.now.verts.names < 2 ^ 32 }
     {
         self.verts.slot_from(least)
     }
@@ -244,6 +246,7 @@ impl Store {
     pub fn edge_from(&self, least: u32) -> Option<Slot>
         ensures slot { MatchOption result (NoneLiveFrom self.now.edges.names least) (LeadsFirst self.now.edges.names least) }
         ensures named { AreNamed (λ c. c.number) self.now.edges.cells self.now.edges.names }
+        ensures few { length self.now.edges.names < 2 ^ 32 }
     {
         self.edges.slot_from(least)
     }
@@ -253,6 +256,7 @@ impl Store {
     pub fn face_from(&self, least: u32) -> Option<Slot>
         ensures slot { MatchOption result (NoneLiveFrom self.now.faces.names least) (LeadsFirst self.now.faces.names least) }
         ensures named { AreNamed (λ c. c.number) self.now.faces.cells self.now.faces.names }
+        ensures few { length self.now.faces.names < 2 ^ 32 }
     {
         self.faces.slot_from(least)
     }

@@ -52,6 +52,8 @@ fn vertices(rt: HostRuntime) -> Result<(), Fail> {
     assert_eq!(rt; st.vert_from(5), Some(s));
     assert_eq!(rt; st.vert_from(6), None);
     let s = vert(&rt, &st, 5);
+    assert!(rt; st.has_vert(s));
+    assert!(rt; !st.has_vert(Slot(u32::MAX)));
     assert_eq!(rt; st.vert_number(s), 5);
     assert_eq!(rt; st.point(s), [1, -2, 3]);
     assert_eq!(rt; st.first_edge(s), None);
@@ -76,6 +78,8 @@ fn edges(rt: HostRuntime) -> Result<(), Fail> {
     assert_eq!(rt; st.edge_from(2), Some(s));
     assert_eq!(rt; st.edge_from(8), None);
     let s = edge(&rt, &st, 7);
+    assert!(rt; st.has_edge(s));
+    assert!(rt; !st.has_edge(Slot(u32::MAX)));
     assert_eq!(rt; st.edge_number(s), 7);
     assert_eq!(rt; st.ends(s), [Slot(3), Slot(4)]);
     assert_eq!(rt; st.first_loop(s), None);
@@ -99,6 +103,8 @@ fn faces(rt: HostRuntime) -> Result<(), Fail> {
     assert_eq!(rt; st.face_from(0), Some(s));
     assert_eq!(rt; st.face_from(1), None);
     let s = face(&rt, &st, 0);
+    assert!(rt; st.has_face(s));
+    assert!(rt; !st.has_face(Slot(u32::MAX)));
     assert_eq!(rt; st.face_number(s), 0);
     assert_eq!(rt; st.face_loop(s), None);
     assert_eq!(rt; st.face_len(s), 0);
@@ -150,6 +156,8 @@ fn loops(rt: HostRuntime) -> Result<(), Fail> {
     let mut st = Store::new(rt.alloc());
     st.reserve(1, 1, 1, 1, [8, 8, 8])?;
     let s = st.add_loop(Slot(1), Slot(2), Slot(3));
+    assert!(rt; st.has_loop(s));
+    assert!(rt; !st.has_loop(Slot(u32::MAX)));
     assert_eq!(rt; st.loop_vert(s), Slot(1));
     assert_eq!(rt; st.loop_edge(s), Slot(2));
     assert_eq!(rt; st.loop_face(s), Slot(3));
