@@ -198,6 +198,6 @@ RefusesWords (Some job) status = (status ≡ Usage → ⊥) × (is_grid job.mode
 abbrev pub HasRisen : Told → Told → Type 0
 HasRisen old new = Rose old.in_faults new.in_faults ⊎ Rose old.out_faults new.out_faults
 
--- where words, model and script are accepted and neither count rose, the run is delivered, or memory ran out
+-- where neither count rose the run ends as its outcome says, or memory ran out
 abbrev pub Completes : Outcome → Status → Told → Told → Type 0
-Completes o status old new = is_delivered o.status ≡ true → ¬ HasRisen old new → (is_delivered status ≡ true) ⊎ (status ≡ NoMemory)
+Completes o status old new = ¬ HasRisen old new → (status ≡ o.status) ⊎ (status ≡ NoMemory)
