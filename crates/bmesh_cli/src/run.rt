@@ -9,6 +9,7 @@ ghost use Rattle.bmesh_cli.specs.Job.{job_of, script_starts, out_starts, model_s
 ghost use Rattle.bmesh_cli.specs.Run.{model_of, script_named, model_line, script_line, refuses, concludes, delivers, with_script, with_model, usage_line, outcome, due_by_script, due_by_model, due};
 ghost use Rattle.bmesh_cli.specs.Ends.{is_answer, is_delivered, is_past_model, is_past_script, Ends, LeavesAll, Caused, AsksFor, EndsBy, EndsRunBy, ReadsBy, ReadsRunBy, IsOnTheWay, IsPartOf, IsPartOfRun, IsRefusal, RefusesWords, Completes};
 ghost use Rattle.bmesh_cli.specs.Report.{report, is_refused};
+ghost use Rattle.bmesh_cli.specs.Memory.{sure_told};
 ghost use Rattle.bmesh_cli.specs.Whole.{PrintsPart, OnlyPrints};
 ghost use Rattle.obj_text.specs.Told.{with_after};
 ghost use Rattle.std.specs.List.{list_any};
@@ -75,6 +76,9 @@ pub fn run_surely(
     world: &mut SureWorld,
 ) -> Status
     requires { session.old ≡ fresh }
+    ensures ends { (files : Files) → world.old.told.files ≡ Some files
+        → Ends (outcome (map string_bytes words.now) files) (out_of (job_of (map string_bytes words.now))) result session.new (sure_told world.old) (sure_told world.new) }
+    ensures usage { RefusesWords (job_of (map string_bytes words.now)) result }
     ensures no_in_fault { result ≡ Status.InFault → ⊥ }
     ensures no_out_fault { result ≡ Status.OutFault → ⊥ }
 {
