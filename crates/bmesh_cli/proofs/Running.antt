@@ -14,8 +14,8 @@ use Rattle.mesh_model.specs.Complex.{Complex}
 use Rattle.obj_text.specs.declared.obj_fault.ObjRefusal.{ObjRefusal}
 use Rattle.script_text.specs.declared.commands.Script.{Script}
 use Rattle.script_text.specs.declared.fault.ScriptRefusal.{ScriptRefusal}
-use Rattle.bmesh_cli.specs.Job.{job_of, out_of}
-use Rattle.bmesh_cli.specs.Run.{Outcome, refuses, concludes, delivers, with_script, with_model, outcome, model_line, script_line, usage_line}
+use Rattle.bmesh_cli.specs.Job.{Job, job_of, out_of}
+use Rattle.bmesh_cli.specs.Run.{Outcome, model_of, script_named, refuses, concludes, delivers, with_script, with_model, outcome, model_line, script_line, usage_line}
 use Rattle.bmesh_cli.specs.Ends.{is_answer, made_with, begun_after, Caused, AsksFor, Ends}
 use Rattle.bmesh_cli.specs.Whole.{KeepsCounts, OnlyReads, OnlyWrites, MakesPart, PrintsPart}
 use Rattle.bmesh_cli.specs.declared.start.Start.{Start}
@@ -180,6 +180,11 @@ ends_model_refused r model script out status final old new is h = rw is h
 -- words that are not accepted
 pub ends_words : (words : List (List ℕ)) (files : Files) (status : Status) (final : State) (old new : Told) → job_of words ≡ None → Ends (refuses Usage usage_line) [] status final old new → Ends (outcome words files) (out_of (job_of words)) status final old new
 ends_words words files status final old new is h = rw is h
+
+-- words that are accepted
+pub ends_job : (words : List (List ℕ)) (job : Job) (files : Files) (status : Status) (final : State) (old new : Told) → job_of words ≡ Some job → Ends (with_model (model_of job.model files) (script_named job.script files)) job.out status final old new
+    → Ends (outcome words files) (out_of (job_of words)) status final old new
+ends_job words job files status final old new is h = rw is h
 
 -- the commands of a script were given, and their replies concluded
 pub ends_delivered : (c : Complex) (s : Script) (start : State) (commands : List Command) (replies : List Reply) (out : List ℕ) (status : Status) (final : State) (old new : Told) → start ≡ loaded c → commands ≡ s.commands

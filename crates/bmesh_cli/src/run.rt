@@ -64,8 +64,10 @@ pub fn run<W: World>(
         → Completes (outcome (map string_bytes words.now) files) result (W.told world.old) (W.told world.new) }
     ensures sound { IsSoundState session.new }
 {
-    let status = run_words(alloc, words, session, world);
-    status
+    match job_of(words) {
+        Some(job) => run_job(alloc, job, session, world),
+        None => refuse_words(world),
+    }
 }
 
 /// The same over a world that never fails.
@@ -84,34 +86,6 @@ pub fn run_surely(
 {
     let status = run(alloc, words, session, world);
     status
-}
-
-// The same but for what follows from the rest.
-fn run_words<W: World>(
-    alloc: Global,
-    words: &[String],
-    session: &mut Session,
-    world: &mut W,
-) -> Status
-    requires { session.old ≡ fresh }
-    ensures ends { (files : Files) → (W.told world.old).files ≡ Some files
-        → Ends (outcome (map string_bytes words.now) files) (out_of (job_of (map string_bytes words.now))) result session.new (W.told world.old) (W.told world.new) }
-    ensures in_fault { result ≡ Status.InFault → LeavesAll session.new (W.told world.old) (W.told world.new) }
-    ensures no_memory { result ≡ Status.NoMemory → (files : Files) → (W.told world.old).files ≡ Some files
-        → IsPartOfRun (job_of (map string_bytes words.now)) files session.new }
-    ensures usage { RefusesWords (job_of (map string_bytes words.now)) result }
-    ensures cause { Caused result (W.told world.old) (W.told world.new) }
-    ensures due { (files : Files) → (W.told world.old).files ≡ Some files
-        → AsksFor (due (job_of (map string_bytes words.now)) files) (W.told world.old) (W.told world.new) }
-    ensures by_status { EndsRunBy (job_of (map string_bytes words.now)) result session.new (W.told world.old) (W.told world.new) }
-    ensures read { (files : Files) → (W.told world.old).files ≡ Some files → ReadsRunBy (job_of (map string_bytes words.now)) files result (W.told world.new) }
-    ensures finished { is_delivered result ≡ true → (W.told world.new).begun ≡ None }
-    ensures sound { IsSoundState session.new }
-{
-    match job_of(words) {
-        Some(job) => run_job(alloc, job, session, world),
-        None => refuse_words(world),
-    }
 }
 
 // With accepted words: reads the model.
