@@ -130,6 +130,14 @@ pub asks_run : (job : Option Job) (status : Status) (final : State) (old new : T
 asks_run None status final old new h = asks_by [] [] [] status final old new h
 asks_run (Some job) status final old new h = asks_by (model_starts job.model) (script_starts job.script) (out_starts job.out) status final old new h
 
+-- the same of words that are accepted
+pub asks_job : (words : Option Job) (job : Job) (status : Status) (final : State) (old new : Told) → words ≡ Some job → EndsBy (model_starts job.model) (script_starts job.script) (out_starts job.out) status final old new → AsksFor (starts_of words) old new
+asks_job words job status final old new is h = rw is (asks_run (Some job) status final old new h)
+
+-- the same of words that are not accepted
+pub asks_no_job : (words : Option Job) (status : Status) (final : State) (old new : Told) → words ≡ None → EndsBy [] [] [] status final old new → AsksFor (starts_of words) old new
+asks_no_job words status final old new is h = rw is (asks_run None status final old new h)
+
 -- before a verdict on the script only its file is asked for
 pub due_early_script : (verdict : Result Script ScriptRefusal) (script out : List Start) (old new : Told) → AsksFor script old new → AsksFor (due_by_script verdict script out) old new
 due_early_script (Err r) script out old new h = h

@@ -14,9 +14,9 @@ use Rattle.mesh_model.specs.Complex.{Complex}
 use Rattle.obj_text.specs.declared.obj_fault.ObjRefusal.{ObjRefusal}
 use Rattle.script_text.specs.declared.commands.Script.{Script}
 use Rattle.script_text.specs.declared.fault.ScriptRefusal.{ScriptRefusal}
-use Rattle.bmesh_cli.specs.Job.{job_of, out_of}
-use Rattle.bmesh_cli.specs.Run.{Outcome, refuses, concludes, delivers, with_script, with_model, outcome, model_line, script_line, usage_line}
-use Rattle.bmesh_cli.specs.Ends.{is_answer, made_with, Caused, AsksFor, Ends}
+use Rattle.bmesh_cli.specs.Job.{Job, job_of, out_of}
+use Rattle.bmesh_cli.specs.Run.{Outcome, model_of, script_named, refuses, concludes, delivers, with_script, with_model, outcome, model_line, script_line, usage_line}
+use Rattle.bmesh_cli.specs.Ends.{is_answer, made_with, begun_after, Caused, AsksFor, Ends}
 use Rattle.bmesh_cli.specs.Whole.{KeepsCounts, OnlyReads, OnlyWrites, MakesPart, PrintsPart}
 use Rattle.bmesh_cli.specs.declared.start.Start.{Start}
 use Rattle.bmesh_cli.specs.declared.start.Purpose.TheVariants.{Writing}
@@ -28,11 +28,13 @@ pub ends_after : (o : Outcome) (out : List ℕ) (status : Status) (final : State
 ends_after o out status final old mid new only h =
     let made : mid.made ≡ old.made = ap (λ (t : Told). t.made) only in
     let printed : mid.printed ≡ old.printed = ap (λ (t : Told). t.printed) only in
+    let begun : mid.begun ≡ old.begun = ap (λ (t : Told). t.begun) only in
     record {
       answer = h.answer;
       session = h.session;
       all = λ is. let all = h.all is in record {
         made = all.made ∙ ap (made_with out o.made) made;
+        begun = all.begun ∙ ap (begun_after o.made) begun;
         printed = all.printed ∙ ap (λ p. with_after p o.printed) printed;
       };
       part = elim h.part [
@@ -45,6 +47,7 @@ ends_after o out status final old mid new only h =
         })
         | inr late ↦ inr (record {
           made = late.made ∙ ap (made_with out o.made) made;
+          begun = late.begun ∙ ap (begun_after o.made) begun;
           printed = (late.printed.0, late.printed.1 ∙ ap (λ p. with_after p (take late.printed.0 o.printed)) printed);
         })
       ];
@@ -122,15 +125,18 @@ pub ends_written : (o : Outcome) (out text : List ℕ) (status : Status) (final 
 ends_written o out text status final old mid new some wrote answer all same part =
     let made : mid.made ≡ made_with out o.made old.made = ap (λ (t : Told). t.made) wrote ∙ ap (λ m. made_with out m old.made) (sym some) in
     let printed : mid.printed ≡ old.printed = ap (λ (t : Told). t.printed) wrote in
+    let begun : mid.begun ≡ begun_after o.made old.begun = ap (λ (t : Told). t.begun) wrote ∙ ap (λ m. begun_after m old.begun) (sym some) in
     record {
       answer = answer;
       session = λ _. same;
       all = λ is. record {
         made = ap (λ (t : Told). t.made) (all is) ∙ made;
+        begun = ap (λ (t : Told). t.begun) (all is) ∙ begun;
         printed = ap (λ (t : Told). t.printed) (all is) ∙ ap (λ p. with_after p o.printed) printed;
       };
       part = inr (record {
         made = ap (λ (t : Told). t.made) part.1 ∙ made;
+        begun = ap (λ (t : Told). t.begun) part.1 ∙ begun;
         printed = (part.0, ap (λ (t : Told). t.printed) part.1 ∙ ap (λ p. with_after p (take part.0 o.printed)) printed);
       });
       out_fault = λ _. same;
@@ -142,8 +148,8 @@ pub ends_refused : (refused status : Status) (line out : List ℕ) (old new : To
 ends_refused refused status line out old new answer all part = record {
   answer = answer;
   session = λ _. refl;
-  all = λ is. record { made = ap (λ (t : Told). t.made) (all is); printed = ap (λ (t : Told). t.printed) (all is) };
-  part = inr (record { made = ap (λ (t : Told). t.made) part.1; printed = (part.0, ap (λ (t : Told). t.printed) part.1) });
+  all = λ is. record { made = ap (λ (t : Told). t.made) (all is); begun = ap (λ (t : Told). t.begun) (all is); printed = ap (λ (t : Told). t.printed) (all is) };
+  part = inr (record { made = ap (λ (t : Told). t.made) part.1; begun = ap (λ (t : Told). t.begun) part.1; printed = (part.0, ap (λ (t : Told). t.printed) part.1) });
   out_fault = λ _. refl;
 }
 
@@ -174,6 +180,11 @@ ends_model_refused r model script out status final old new is h = rw is h
 -- words that are not accepted
 pub ends_words : (words : List (List ℕ)) (files : Files) (status : Status) (final : State) (old new : Told) → job_of words ≡ None → Ends (refuses Usage usage_line) [] status final old new → Ends (outcome words files) (out_of (job_of words)) status final old new
 ends_words words files status final old new is h = rw is h
+
+-- words that are accepted
+pub ends_job : (words : List (List ℕ)) (job : Job) (files : Files) (status : Status) (final : State) (old new : Told) → job_of words ≡ Some job → Ends (with_model (model_of job.model files) (script_named job.script files)) job.out status final old new
+    → Ends (outcome words files) (out_of (job_of words)) status final old new
+ends_job words job files status final old new is h = rw is h
 
 -- the commands of a script were given, and their replies concluded
 pub ends_delivered : (c : Complex) (s : Script) (start : State) (commands : List Command) (replies : List Reply) (out : List ℕ) (status : Status) (final : State) (old new : Told) → start ≡ loaded c → commands ≡ s.commands

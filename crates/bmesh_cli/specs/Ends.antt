@@ -79,9 +79,15 @@ abbrev pub made_with : List ℕ → Option (List ℕ) → Option Files → Optio
 made_with out None made = made
 made_with out (Some text) made = option_map (put out text) made
 
--- all that an outcome says was made and printed
+-- once there is a text under OUT, no file is begun
+abbrev pub begun_after : Option (List ℕ) → Option (List ℕ) → Option (List ℕ)
+begun_after None begun = begun
+begun_after (Some text) begun = None
+
+-- all that an outcome says was made and printed, and OUT is ended
 pub record MeetsAll (o : Outcome) (out : List ℕ) (old new : Told) : Type 0 where
   pub made : new.made ≡ made_with out o.made old.made
+  pub begun : new.begun ≡ begun_after o.made old.begun
   pub printed : new.printed ≡ with_after old.printed o.printed
 
 -- a prefix of the text under OUT may have been made, and nothing was printed
@@ -89,12 +95,13 @@ pub record MadePart (o : Outcome) (out : List ℕ) (old new : Told) : Type 0 whe
   pub made : (new.made ≡ old.made) ⊎ ((text : List ℕ) × (o.made ≡ Some text) × ((n : ℕ) × (new.made ≡ option_map (put out (take n text)) old.made)))
   pub printed : new.printed ≡ old.printed
 
--- all of OUT was made, and a prefix of the text to print was printed
+-- all of OUT was made and ended, and a prefix of the text to print was printed
 pub record PrintedPart (o : Outcome) (out : List ℕ) (old new : Told) : Type 0 where
   pub made : new.made ≡ made_with out o.made old.made
+  pub begun : new.begun ≡ begun_after o.made old.begun
   pub printed : (n : ℕ) × (new.printed ≡ with_after old.printed (take n o.printed))
 
--- OUT is made before anything is printed, and each in order from its front
+-- OUT is made and ended before anything is printed, and each is made in order from its front
 abbrev pub MeetsPart : Outcome → List ℕ → Told → Told → Type 0
 MeetsPart o out old new = MadePart o out old new ⊎ PrintedPart o out old new
 
@@ -198,6 +205,6 @@ RefusesWords (Some job) status = (status ≡ Usage → ⊥) × (is_grid job.mode
 abbrev pub HasRisen : Told → Told → Type 0
 HasRisen old new = Rose old.in_faults new.in_faults ⊎ Rose old.out_faults new.out_faults
 
--- where words, model and script are accepted and neither count rose, the run is delivered, or memory ran out
+-- where neither count rose the run ends as its outcome says, or memory ran out
 abbrev pub Completes : Outcome → Status → Told → Told → Type 0
-Completes o status old new = is_delivered o.status ≡ true → ¬ HasRisen old new → (is_delivered status ≡ true) ⊎ (status ≡ NoMemory)
+Completes o status old new = ¬ HasRisen old new → (status ≡ o.status) ⊎ (status ≡ NoMemory)

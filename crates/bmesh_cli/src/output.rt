@@ -36,8 +36,8 @@ pub fn write_file<W: World, S: Shape>(
     Ok(())
 }
 
-// Begins a file with a shape's text.
-fn begin_file<W: World, S: Shape>(
+/// Begins a file with a shape's text. A fault may leave a prefix of the text.
+pub fn begin_file<W: World, S: Shape>(
     alloc: Global,
     world: &mut W,
     name: &str,

@@ -9,6 +9,7 @@ ghost use Rattle.bmesh_cli.specs.Job.{job_of, script_starts, out_starts, model_s
 ghost use Rattle.bmesh_cli.specs.Run.{model_of, script_named, model_line, script_line, refuses, concludes, delivers, with_script, with_model, usage_line, outcome, due_by_script, due_by_model, due};
 ghost use Rattle.bmesh_cli.specs.Ends.{is_answer, is_delivered, is_past_model, is_past_script, Ends, LeavesAll, Caused, AsksFor, EndsBy, EndsRunBy, ReadsBy, ReadsRunBy, IsOnTheWay, IsPartOf, IsPartOfRun, IsRefusal, RefusesWords, Completes};
 ghost use Rattle.bmesh_cli.specs.Report.{report, is_refused};
+ghost use Rattle.bmesh_cli.specs.Memory.{sure_told};
 ghost use Rattle.bmesh_cli.specs.Whole.{PrintsPart, OnlyPrints};
 ghost use Rattle.obj_text.specs.Told.{with_after};
 ghost use Rattle.std.specs.List.{list_any};
@@ -63,8 +64,10 @@ pub fn run<W: World>(
         → Completes (outcome (map string_bytes words.now) files) result (W.told world.old) (W.told world.new) }
     ensures sound { IsSoundState session.new }
 {
-    let status = run_words(alloc, words, session, world);
-    status
+    match job_of(words) {
+        Some(job) => run_job(alloc, job, session, world),
+        None => refuse_words(world),
+    }
 }
 
 /// The same over a world that never fails.
@@ -75,39 +78,14 @@ pub fn run_surely(
     world: &mut SureWorld,
 ) -> Status
     requires { session.old ≡ fresh }
+    ensures ends { (files : Files) → world.old.told.files ≡ Some files
+        → Ends (outcome (map string_bytes words.now) files) (out_of (job_of (map string_bytes words.now))) result session.new (sure_told world.old) (sure_told world.new) }
+    ensures usage { RefusesWords (job_of (map string_bytes words.now)) result }
     ensures no_in_fault { result ≡ Status.InFault → ⊥ }
     ensures no_out_fault { result ≡ Status.OutFault → ⊥ }
 {
     let status = run(alloc, words, session, world);
     status
-}
-
-// The same but for what follows from the rest.
-fn run_words<W: World>(
-    alloc: Global,
-    words: &[String],
-    session: &mut Session,
-    world: &mut W,
-) -> Status
-    requires { session.old ≡ fresh }
-    ensures ends { (files : Files) → (W.told world.old).files ≡ Some files
-        → Ends (outcome (map string_bytes words.now) files) (out_of (job_of (map string_bytes words.now))) result session.new (W.told world.old) (W.told world.new) }
-    ensures in_fault { result ≡ Status.InFault → LeavesAll session.new (W.told world.old) (W.told world.new) }
-    ensures no_memory { result ≡ Status.NoMemory → (files : Files) → (W.told world.old).files ≡ Some files
-        → IsPartOfRun (job_of (map string_bytes words.now)) files session.new }
-    ensures usage { RefusesWords (job_of (map string_bytes words.now)) result }
-    ensures cause { Caused result (W.told world.old) (W.told world.new) }
-    ensures due { (files : Files) → (W.told world.old).files ≡ Some files
-        → AsksFor (due (job_of (map string_bytes words.now)) files) (W.told world.old) (W.told world.new) }
-    ensures by_status { EndsRunBy (job_of (map string_bytes words.now)) result session.new (W.told world.old) (W.told world.new) }
-    ensures read { (files : Files) → (W.told world.old).files ≡ Some files → ReadsRunBy (job_of (map string_bytes words.now)) files result (W.told world.new) }
-    ensures finished { is_delivered result ≡ true → (W.told world.new).begun ≡ None }
-    ensures sound { IsSoundState session.new }
-{
-    match job_of(words) {
-        Some(job) => run_job(alloc, job, session, world),
-        None => refuse_words(world),
-    }
 }
 
 // With accepted words: reads the model.
