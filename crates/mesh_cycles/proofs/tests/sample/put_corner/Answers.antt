@@ -1,0 +1,33 @@
+use Rattle.std.proofs.Common.{◌∙◌, List, Some, length, sym, ap}
+use Rattle.mesh_store.specs.declared.cells.Round.{Round}
+use Rattle.mesh_cycles.proofs.TestStores.{last_round, live_len, sample_round}
+use Rattle.mesh_cycles.proofs.tests.sample.put_corner.Goals as goal
+
+pub returns-in_default : goal.returns-in_default
+returns-in_default c = sample_round c.args.st.now c.loop_make.new.st c.args.face.0 c.loop_make.ensures.rest c.loop_make.ensures.others
+    (c.loop_make.ensures.len ∙ ap (λ (ls : List Round). Some (length ls)) (sym c.loop_make.ensures.own)) c.loop_make.ensures.cycles
+
+pub loop_insert-requires-clause-member : goal.loop_insert-requires-clause-member
+loop_insert-requires-clause-member c =
+    let st = c.args.st.now in
+    let f = c.args.face.0 in (
+      f,
+      last_round st f c.in-Some.first c.prev-last.result c.requires.cycles c.in-Some.ensures c.prev-last.ensures,
+      live_len st f c.requires.counted c.requires.live,
+    )
+
+pub loop_insert-requires-clause-same : goal.loop_insert-requires-clause-same
+loop_insert-requires-clause-same c =
+    let st = c.args.st.now in
+    let f = c.args.face.0 in
+    let last = c.prev-last.result in
+    c.requires.face ∙ sym (c.requires.cycles.round_faces f last (last_round st f c.in-Some.first last c.requires.cycles c.in-Some.ensures c.prev-last.ensures))
+
+pub returns : goal.returns
+returns c =
+    let st = c.args.st.now in
+    let f = c.args.face.0 in
+    let last = c.prev-last.result in
+    let is = c.requires.cycles.round_faces f last (last_round st f c.in-Some.first last c.requires.cycles c.in-Some.ensures c.prev-last.ensures) in
+    let at = c.loop_insert in
+    sample_round st at.new.st f (at.ensures.rest f is) (at.ensures.others f is) (at.ensures.len f is) at.ensures.cycles

@@ -1,0 +1,10 @@
+pub mod Owners
+pub mod Lists
+pub mod Cycles
+pub mod Edits
+pub mod Found
+pub mod Left
+pub mod Around
+pub mod Faces
+pub mod TestStores
+pub mod Rows

@@ -1,0 +1,142 @@
+//! Along an edge: its loops, and their faces.
+ghost use Rattle.std.specs.Prelude.{◌≡◌, []};
+ghost use Rattle.std.specs.List.{find};
+ghost use Rattle.std.specs.Iterator.{YieldsFirst, item_count};
+ghost use Rattle.raw_pool.specs.Slots.{IsLive};
+ghost use Rattle.link_ring.specs.Members.{AllDistinct};
+ghost use Rattle.mesh_cycles.specs.Cycles.{AreCycles, AreComplete};
+ghost use Rattle.mesh_cycles.specs.Found.{loops_along, loops_in, faces_along, goes_along, leads_face};
+ghost use Rattle.mesh_cycles.specs.Left.{loops_along_left, CanGiveLoopsAlong};
+ghost use Rattle.mesh_cycles.specs.Faces.{faces_along_left, CanGiveFacesAlong, HasFacesAlong};
+
+use crate::cycle_iter::{CycleIter, members_of};
+use crate::in_face::corners_of_face;
+use crate::radial::first_radial;
+use mesh_store::{Radial, Slot, Store};
+use std::iter::FusedIterator;
+
+/// An iterator over the loops along an edge, which [`loops_of_edge`] makes.
+///
+/// After the last loop it answers `None` for ever. An item takes constant time.
+#[derive(Drop)]
+#[must_use]
+pub struct LoopsOfEdge<'a> {
+    loops: CycleIter<'a, Radial, Store>,
+}
+
+impl<'a> Iterator for LoopsOfEdge<'a> {
+    type Item = Slot;
+
+    ghost can_next = { CanGiveLoopsAlong };
+
+    ghost next_gives = { YieldsFirst loops_along_left };
+
+    ghost remaining = { item_count loops_along_left };
+
+    fn next(&mut self) -> Option<Slot> {
+        let member = self.loops.next()?;
+        Some(member.0)
+    }
+}
+
+impl<'a> FusedIterator for LoopsOfEdge<'a> {}
+
+/// The loops along a live edge, each once, in any order. Constant time.
+pub fn loops_of_edge(st: &Store, e: Slot) -> LoopsOfEdge<'_>
+    requires cycles { AreCycles st.now }
+    requires live { IsLive st.now.edges.cells e.0 }
+    ensures items { loops_along_left result ≡ loops_along st.now e.0 }
+    ensures once { AllDistinct (loops_along st.now e.0) }
+    ensures ready { CanGiveLoopsAlong result }
+{
+    LoopsOfEdge {
+        loops: members_of(st, first_radial(st, e)),
+    }
+}
+
+/// No loops.
+pub(crate) fn no_loops(st: &Store) -> LoopsOfEdge<'_>
+    ensures none { loops_along_left result ≡ [] }
+    ensures ready { CanGiveLoopsAlong result }
+{
+    LoopsOfEdge {
+        loops: members_of(st, None),
+    }
+}
+
+/// An iterator over the faces along an edge, which [`faces_of_edge`] makes.
+///
+/// After the last face it answers `None` for ever. An item takes time that grows with the loops passed over and the corners of
+/// their faces.
+#[derive(Drop)]
+#[must_use]
+pub struct FacesOfEdge<'a> {
+    st: &'a Store,
+    edge: Slot,
+    // The loops to come.
+    loops: LoopsOfEdge<'a>,
+}
+
+impl<'a> Iterator for FacesOfEdge<'a> {
+    type Item = Slot;
+
+    ghost can_next = { CanGiveFacesAlong };
+
+    ghost next_gives = { YieldsFirst faces_along_left };
+
+    ghost remaining = { item_count faces_along_left };
+
+    fn next(&mut self) -> Option<Slot> {
+        while let Some(l) = self.loops.next() {
+            if leads_along(self.st, self.edge, l) {
+                return Some(self.st.loop_face(l));
+            }
+        }
+        None
+    }
+}
+
+impl<'a> FusedIterator for FacesOfEdge<'a> {}
+
+/// The faces with a loop along a live edge, each once, in any order. Constant time.
+///
+/// A face comes with the first of its loops along the edge. Where every loop is in the cycles of its edge and its face, no face
+/// is left out (`all`).
+pub fn faces_of_edge(st: &Store, e: Slot) -> FacesOfEdge<'_>
+    requires cycles { AreCycles st.now }
+    requires live { IsLive st.now.edges.cells e.0 }
+    ensures items { faces_along_left result ≡ faces_along st.now e.0 }
+    ensures once { AllDistinct (faces_along st.now e.0) }
+    ensures all { AreComplete st.now → HasFacesAlong st.now e.0 }
+    ensures ready { CanGiveFacesAlong result }
+{
+    FacesOfEdge {
+        st,
+        edge: e,
+        loops: loops_of_edge(st, e),
+    }
+}
+
+// Whether a live loop is the first of its face along an edge.
+fn leads_along(st: &Store, e: Slot, l: Slot) -> bool
+    requires cycles { AreCycles st.now }
+    requires live { IsLive st.now.loops l.0 }
+    ensures { result ≡ leads_face st.now (goes_along st.now e.0) l }
+{
+    let f = st.loop_face(l);
+    st.has_face(f) && first_along(st, f, e) == Some(l)
+}
+
+// The first loop of a live face along an edge.
+fn first_along(st: &Store, f: Slot, e: Slot) -> Option<Slot>
+    requires cycles { AreCycles st.now }
+    requires live { IsLive st.now.faces.cells f.0 }
+    ensures { result ≡ find (goes_along st.now e.0) (loops_in st.now f.0) }
+{
+    for l in corners_of_face(st, f) {
+        if st.loop_edge(l) == e {
+            return Some(l);
+        }
+    }
+    None
+}
