@@ -9,7 +9,8 @@ use Rattle.raw_pool.specs.Slots.{holds, spare_count, IsLive}
 use Rattle.link_ring.specs.Members.{HasMember}
 use Rattle.link_ring.proofs.Members.{member_of, member_one, member_left, member_right, member_cases}
 use Rattle.link_ring.specs.Ring.{LinkMap, ReadsAs}
-use Rattle.link_ring.proofs.Reading.{last_before_first, reads_at}
+use Rattle.link_ring.proofs.Reading.{first_begins, last_before_first, reads_at}
+use Rattle.link_ring.proofs.Rings.{next_member, ring_along}
 use Rattle.mesh_store.specs.Limits.{is_dart}
 use Rattle.mesh_store.specs.Slots.{at}
 use Rattle.mesh_store.specs.Stored.{Stored, dart_links, round_links, new_vert, new_edge, new_loop, new_face}
@@ -66,6 +67,13 @@ dart_there st d v e low = by_cell (at st.edges.cells d.edge.0) e
 -- the one before the first of a cycle is in it
 last_in : {K : Type 0} {m : LinkMap K} {first last : K} {zs : List K} → ReadsAs m (Some first) zs → last ≡ m.prev first → HasMember zs last
 last_in {last = last} r e = let s = last_before_first r e in member_of last (member_right s.front (last ∷ []) last (inl refl)) (sym s.whole)
+
+-- so is the one after the first
+pub second_in : {K : Type 0} {m : LinkMap K} {first second : K} {zs : List K} → ReadsAs m (Some first) zs → second ≡ m.next first → HasMember zs second
+second_in {K} {m} {first} {second} {zs} r e =
+    let s = first_begins r in
+    let P = HasMember (first ∷ s.0) in
+    member_of second (subst P (sym e) (next_member s.0 (ring_along m zs (first ∷ s.0) s.1 r.ring))) (sym s.1)
 
 pub last_round : (st : Stored) (f : ℕ) (first last : Round) → AreCycles st → Some first ≡ first_round st f → last ≡ (round_links st).prev first → HasMember (round_of st f) last
 last_round st f first last h is e = last_in (reads_at (h.rounds f) (sym is)) e

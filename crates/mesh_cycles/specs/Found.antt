@@ -1,7 +1,7 @@
 -- What the iterators give, and the edge that joins two vertices.
 use Rattle.std.specs.Prelude.{◌≡◌, ◌≤◌, ◌==◌, ◌&&◌, ◌||◌, ℕ, Bool, true, false, IsTrue, List, map}
 use Rattle.std.specs.declared.option.Option.{Option}
-use Rattle.std.specs.declared.option.Option.TheVariants.{None, Some}
+use Rattle.std.specs.declared.option.Option.TheVariants.{Some}
 use Rattle.std.specs.List.{filter, filter_map, flat_map, find}
 use Rattle.std.specs.Option.{option_map_or}
 use Rattle.raw_pool.specs.declared.pool.Slot.{Slot}

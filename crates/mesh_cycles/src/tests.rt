@@ -126,6 +126,12 @@ fn a_fan_of_three_triangles(rt: HostRuntime) -> Result<(), Fail> {
     mesh.corners_are(&rt, 0, &[a.far, a.own, a.near]);
     mesh.corners_are(&rt, 1, &[b.far, b.own, b.near]);
     mesh.corners_are(&rt, 2, &[c.far, c.own, c.near]);
+    mesh.take_second_edge(&rt, 0);
+    mesh.edges_are(&rt, 0, &[0, 4, 6]);
+    mesh.take_second_loop(&rt, 0);
+    mesh.loops_are(&rt, 0, &[a.near, b.near]);
+    mesh.take_second_corner(&rt, 0);
+    mesh.corners_are(&rt, 0, &[a.far, a.near]);
     Ok(())
 }
 

@@ -270,6 +270,19 @@ impl Sample {
         disk_remove(&mut self.st, vert, dart);
     }
 
+    /// Takes the second edge of a vertex out of the vertex's disk cycle; the only one, where there is one.
+    pub fn take_second_edge(&mut self, rt: &impl Abort, vert: u32)
+        requires { IsSample self.old.st self.old.left self.old.reach }
+        ensures { IsSample self.new.st self.new.left self.new.reach }
+    {
+        let vert = self.vert(rt, vert);
+        let Some(first) = first_dart(&self.st, vert) else {
+            panic!(rt; "no edge");
+        };
+        let second = self.st.next(first);
+        disk_remove(&mut self.st, vert, second);
+    }
+
     /// Takes the first edge of a vertex out, and puts it last.
     pub fn turn_edges(&mut self, rt: &impl Abort, vert: u32)
         requires { IsSample self.old.st self.old.left self.old.reach }
@@ -295,6 +308,19 @@ impl Sample {
         radial_remove(&mut self.st, edge, first.0);
     }
 
+    /// Takes the second loop of an edge out of the edge's radial cycle; the only one, where there is one.
+    pub fn take_second_loop(&mut self, rt: &impl Abort, edge: u32)
+        requires { IsSample self.old.st self.old.left self.old.reach }
+        ensures { IsSample self.new.st self.new.left self.new.reach }
+    {
+        let edge = self.edge(rt, edge);
+        let Some(first) = first_radial(&self.st, edge) else {
+            panic!(rt; "no loop");
+        };
+        let second = self.st.next(first);
+        radial_remove(&mut self.st, edge, second.0);
+    }
+
     /// Takes the first loop of an edge out, and puts it last.
     pub fn turn_loops(&mut self, rt: &impl Abort, edge: u32)
         requires { IsSample self.old.st self.old.left self.old.reach }
@@ -318,6 +344,19 @@ impl Sample {
             panic!(rt; "no corner");
         };
         loop_remove(&mut self.st, face, first.0);
+    }
+
+    /// Takes the second loop of a face out of the face's loop cycle; the only one, where there is one.
+    pub fn take_second_corner(&mut self, rt: &impl Abort, face: u32)
+        requires { IsSample self.old.st self.old.left self.old.reach }
+        ensures { IsSample self.new.st self.new.left self.new.reach }
+    {
+        let face = self.face(rt, face);
+        let Some(first) = first_round(&self.st, face) else {
+            panic!(rt; "no corner");
+        };
+        let second = self.st.next(first);
+        loop_remove(&mut self.st, face, second.0);
     }
 
     /// Takes the first loop of a face out, and puts it last.
