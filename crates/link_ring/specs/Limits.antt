@@ -6,6 +6,7 @@ use Rattle.std.proofs.lemmas.List.{length-map}
 use Rattle.std.proofs.lemmas.Bool.{or_cases, false_from_ne_true, false≢true, eqb-true}
 use Rattle.std.proofs.lemmas.Map.Steps.{length-le_from_distinct_below}
 use Rattle.link_ring.specs.Members.{HasMember, AllDistinct}
+use Rattle.link_ring.specs.Mapped.{mapped_from, distinct_map}
 use Rattle.link_ring.specs.Ring.{LinkMap, AllKeys}
 
 -- each of a list of keys is a key
@@ -33,28 +34,6 @@ member_any q (x ∷ xs) h = elim (or_cases (eqb q x) (list_any (eqb q) xs) h) [ 
 pub numbers_limited : (n : ℕ) (xs : List ℕ) → AllDistinct xs → ((j : ℕ) → HasMember xs j → j < n) → length xs ≤ n
 numbers_limited n xs d f = length-le_from_distinct_below xs n (distinct_numbers xs d) (λ q h. f q (member_any q xs h))
 
--- a key of the list, with its number
-record Numbered {K : Type 0} (f : K → ℕ) (xs : List K) (j : ℕ) : Type 0 where
-  key : K
-  member : HasMember xs key
-  number : f key ≡ j
-
--- each of the numbers is one of a key
-member_map : {K : Type 0} (f : K → ℕ) (xs : List K) (j : ℕ) → HasMember (map f xs) j → Numbered f xs j
-member_map f [] j h = absurd h
-member_map f (x ∷ xs) j h = elim h [
-  | inl e ↦ record { key = x; member = inl refl; number = e }
-  | inr r ↦ (let t = member_map f xs j r in record { key = t.key; member = inr t.member; number = t.number })
-]
-
--- different keys have different numbers
-distinct_map : {K : Type 0} (f : K → ℕ) (xs : List K) → ((a b : K) → HasMember xs a → HasMember xs b → f a ≡ f b → a ≡ b) → AllDistinct xs → AllDistinct (map f xs)
-distinct_map f [] one d = tt
-distinct_map {K} f (x ∷ xs) one d = (
-  (λ a. let t = member_map f xs (f x) a in let P = HasMember xs in d.0 (subst P (one t.key x (inr t.member) (inl refl) t.number) t.member)),
-  distinct_map f xs (λ a b p q e. one a b (inr p) (inr q) e) d.1,
-)
-
 -- different keys that are numbered below n, no two alike, are at most n
 pub keys_limited : {K : Type 0} (f : K → ℕ) (n : ℕ) (xs : List K) → AllDistinct xs
     → ((a b : K) → HasMember xs a → HasMember xs b → f a ≡ f b → a ≡ b) → ((k : K) → HasMember xs k → f k < n) → length xs ≤ n
@@ -62,4 +41,4 @@ keys_limited f n xs d one low =
     let P = λ (q : ℕ). q < n in
     let Q = λ (q : ℕ). q ≤ n in
     subst Q (length-map xs f)
-    (numbers_limited n (map f xs) (distinct_map f xs one d) (λ j h. let t = member_map f xs j h in subst P t.number (low t.key t.member)))
+    (numbers_limited n (map f xs) (distinct_map f xs one d) (λ j h. let t = mapped_from f xs j h in subst P t.is (low t.of t.member)))

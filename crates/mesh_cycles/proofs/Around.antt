@@ -1,15 +1,14 @@
 -- Edges and loops around a vertex, an edge or a face are live, and none comes twice.
-use Rattle.std.proofs.Common.{◌≡◌, ℕ, zero, suc, ◌<◌, true, IsTrue, is_some, List, [], ◌∷◌, Option, Some, None, refl, sym, ap, subst, arith}
+use Rattle.std.proofs.Common.{◌≡◌, ℕ, zero, suc, ◌<◌, true, is_some, [], ◌∷◌, Option, Some, None, refl, sym, ap, subst, arith}
 use Rattle.std.specs.List.{filter}
 use Rattle.std.specs.Option.{option_map}
 use Rattle.raw_pool.specs.declared.pool.Slot.{Slot}
 use Rattle.raw_pool.specs.Slots.{IsLive}
 use Rattle.link_ring.specs.Members.{HasMember, AllDistinct}
-use Rattle.link_ring.specs.Ring.{LinkMap, AllKeys, IsRing, ReadsAs}
-use Rattle.link_ring.specs.Limits.{key_of}
+use Rattle.link_ring.specs.Mapped.{mapped_from, distinct_map}
 use Rattle.mesh_store.specs.Slots.{at}
-use Rattle.mesh_store.specs.Stored.{Stored, dart_links, radial_links, round_links}
-use Rattle.mesh_store.specs.Limits.{is_dart, same_dart}
+use Rattle.mesh_store.specs.Stored.{Stored, radial_links, round_links}
+use Rattle.mesh_store.specs.Limits.{is_dart, equal_darts}
 use Rattle.mesh_store.specs.declared.cells.Dart.{Dart}
 use Rattle.mesh_store.specs.declared.cells.Radial.{Radial}
 use Rattle.mesh_store.specs.declared.cells.Round.{Round}
@@ -17,21 +16,8 @@ use Rattle.mesh_store.specs.declared.cells.EdgeCell.{EdgeCell}
 use Rattle.mesh_cycles.specs.Owners.{end_on, edge_of, face_of}
 use Rattle.mesh_cycles.specs.Cycles.{AreCycles, disk_of, radial_of, round_of}
 use Rattle.mesh_cycles.specs.Found.{edges_around, loops_along, loops_in, loops_around, stands_at}
-use Rattle.mesh_cycles.proofs.Mapped.{mapped_from, distinct_map, filtered_from, distinct_filter, joined_from, distinct_flat_map}
-
--- the members of a ring are keys
-pub ring_keys : {K : Type 0} (m : LinkMap K) (xs : List K) → IsRing m xs → AllKeys m xs
-ring_keys m [] r = tt
-ring_keys m (x ∷ xs) r = r.keys
-
--- no member of a ring comes twice
-pub ring_distinct : {K : Type 0} (m : LinkMap K) (xs : List K) → IsRing m xs → AllDistinct xs
-ring_distinct m [] r = tt
-ring_distinct m (x ∷ xs) r = r.distinct
-
--- a member of a cycle is a key
-pub cycle_key : {K : Type 0} {m : LinkMap K} {first : Option K} {xs : List K} (k : K) → ReadsAs m first xs → HasMember xs k → IsTrue (m.has k)
-cycle_key {m = m} {xs = xs} k r h = key_of m xs k (ring_keys m xs r.ring) h
+use Rattle.mesh_cycles.proofs.RingLists.{reads_distinct, member_key}
+use Rattle.mesh_cycles.proofs.Mapped.{filtered_from, distinct_filter, joined_from, distinct_flat_map}
 
 -- what is there is live
 live_some : {X : Type 0} (o : Option X) → is_some o ≡ true → IsLive (o ∷ []) 0
@@ -47,7 +33,7 @@ module _ (st : Stored) (cycles : AreCycles st) where
 
   -- the edge of a dart around a vertex is live
   pub dart_live : (v : ℕ) (d : Dart) → HasMember (disk_of st v) d → IsLive st.edges.cells d.edge.0
-  dart_live v d h = live_some (at st.edges.cells d.edge.0) (is_dart st d (cycle_key d (cycles.disks v) h)).0
+  dart_live v d h = live_some (at st.edges.cells d.edge.0) (is_dart st d (member_key d (cycles.disks v) h)).0
 
   -- an edge around a vertex is live
   pub edge_live : (v : ℕ) (e : Slot) → HasMember (edges_around st v) e → IsLive st.edges.cells e.0
@@ -72,13 +58,13 @@ module _ (st : Stored) (cycles : AreCycles st) where
   one_dart v a b p q e =
       let slot : a.edge.0 ≡ b.edge.0 = ap (λ (s : Slot). s.0) e in
       let P = λ (s : ℕ). option_map (end_on b.side) (at st.edges.cells s) ≡ Some v in
-      same_dart a b slot
-      (one_side a.edge.0 (at st.edges.cells a.edge.0) refl v a.side b.side (is_dart st a (cycle_key a (cycles.disks v) p)).1
-      (is_dart st b (cycle_key b (cycles.disks v) q)).1 (cycles.disk_ends v a p) (subst P (sym slot) (cycles.disk_ends v b q)))
+      equal_darts a b slot
+      (one_side a.edge.0 (at st.edges.cells a.edge.0) refl v a.side b.side (is_dart st a (member_key a (cycles.disks v) p)).1
+      (is_dart st b (member_key b (cycles.disks v) q)).1 (cycles.disk_ends v a p) (subst P (sym slot) (cycles.disk_ends v b q)))
 
   -- no edge comes twice around a vertex
   pub edges_once : (v : ℕ) → AllDistinct (edges_around st v)
-  edges_once v = distinct_map (λ (d : Dart). d.edge) (disk_of st v) (one_dart v) (ring_distinct (dart_links st) (disk_of st v) (cycles.disks v).ring)
+  edges_once v = distinct_map (λ (d : Dart). d.edge) (disk_of st v) (one_dart v) (reads_distinct (cycles.disks v))
 
   -- ---- along an edge
 
@@ -91,7 +77,7 @@ module _ (st : Stored) (cycles : AreCycles st) where
 
   -- a loop along an edge is live
   pub along_live : (e : ℕ) (l : Slot) → HasMember (loops_along st e) l → IsLive st.loops l.0
-  along_live e l h = live_some (at st.loops l.0) (cycle_key {m = radial_links st} (record { 0 = l }) (cycles.radials e) (along_radial e l h))
+  along_live e l h = live_some (at st.loops l.0) (member_key {m = radial_links st} (record { 0 = l }) (cycles.radials e) (along_radial e l h))
 
   -- a loop along an edge names it
   pub along_names : (e : ℕ) (l : Slot) → HasMember (loops_along st e) l → edge_of st l ≡ Some e
@@ -99,7 +85,7 @@ module _ (st : Stored) (cycles : AreCycles st) where
 
   -- no loop comes twice along an edge
   pub along_once : (e : ℕ) → AllDistinct (loops_along st e)
-  along_once e = distinct_map (λ (r : Radial). r.0) (radial_of st e) (λ a b p q s. λ i. record { 0 = s i }) (ring_distinct (radial_links st) (radial_of st e) (cycles.radials e).ring)
+  along_once e = distinct_map (λ (r : Radial). r.0) (radial_of st e) (λ a b p q s. λ i. record { 0 = s i }) (reads_distinct (cycles.radials e))
 
   -- ---- in a face
 
@@ -112,7 +98,7 @@ module _ (st : Stored) (cycles : AreCycles st) where
 
   -- a loop of a face is live
   pub in_live : (f : ℕ) (l : Slot) → HasMember (loops_in st f) l → IsLive st.loops l.0
-  in_live f l h = live_some (at st.loops l.0) (cycle_key {m = round_links st} (record { 0 = l }) (cycles.rounds f) (in_round f l h))
+  in_live f l h = live_some (at st.loops l.0) (member_key {m = round_links st} (record { 0 = l }) (cycles.rounds f) (in_round f l h))
 
   -- a loop of a face names it
   pub in_names : (f : ℕ) (l : Slot) → HasMember (loops_in st f) l → face_of st l ≡ Some f
@@ -120,7 +106,7 @@ module _ (st : Stored) (cycles : AreCycles st) where
 
   -- no loop comes twice in a face
   pub in_once : (f : ℕ) → AllDistinct (loops_in st f)
-  in_once f = distinct_map (λ (r : Round). r.0) (round_of st f) (λ a b p q s. λ i. record { 0 = s i }) (ring_distinct (round_links st) (round_of st f) (cycles.rounds f).ring)
+  in_once f = distinct_map (λ (r : Round). r.0) (round_of st f) (λ a b p q s. λ i. record { 0 = s i }) (reads_distinct (cycles.rounds f))
 
   -- ---- loops at a vertex
 

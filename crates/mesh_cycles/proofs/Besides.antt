@@ -6,14 +6,14 @@ use Rattle.std.specs.Option.{option_map}
 use Rattle.raw_pool.specs.declared.pool.Slot.{Slot}
 use Rattle.raw_pool.specs.Slots.{holds, spare_count, IsLive}
 use Rattle.mesh_store.specs.Slots.{at, changed}
-use Rattle.mesh_store.specs.Stored.{Stored, dart_links, with_first_edge, with_first_loop, with_face_loop, with_face_len, without_disk, without_radial, without_round}
+use Rattle.mesh_store.specs.Stored.{Stored, dart_links, with_first_edge, with_first_loop, without_disk, without_radial, without_round}
 use Rattle.mesh_store.specs.Room.{HasRoom}
 use Rattle.mesh_store.specs.declared.cells.Dart.{Dart}
 use Rattle.mesh_store.specs.declared.cells.EdgeCell.{EdgeCell}
 use Rattle.mesh_store.specs.declared.cells.LoopCell.{LoopCell}
 use Rattle.mesh_store.specs.declared.cells.FaceCell.{FaceCell}
 use Rattle.mesh_cycles.specs.Owners.{end_on, dart_end, edge_of, face_of, len_of}
-use Rattle.mesh_cycles.specs.Edits.{beside_disk, beside_radial, beside_round}
+use Rattle.mesh_cycles.specs.Edits.{bare_face, beside_disk, beside_radial, beside_round}
 use Rattle.mesh_cycles.proofs.Cells.{told, changed_beside, changed_elsewhere}
 
 -- ---- one pool
@@ -145,26 +145,19 @@ module _ (old new : Stored) (e : ℕ) (rest : beside_radial new e ≡ beside_rad
 
 -- ---- beside a loop cycle
 
--- the face without its first loop and its length
-abbrev bare : FaceCell → FaceCell
-bare c = with_face_len 0 (with_face_loop None c)
-
 module _ (old new : Stored) (f : ℕ) (rest : beside_round new f ≡ beside_round old f) where
   round_loops : map (option_map without_round) new.loops ≡ map (option_map without_round) old.loops
   round_loops = ap (λ (t : Stored). t.loops) rest
 
-  round_faces : map (option_map bare) new.faces.cells ≡ map (option_map bare) old.faces.cells
-  round_faces =
-      sym (changed_beside (with_face_loop None) bare (λ c. refl) new.faces.cells f)
-      ∙ one_beside (with_face_len 0) bare (λ c. refl) (changed (with_face_loop None) old.faces.cells f) (changed (with_face_loop None) new.faces.cells f) f (ap (λ (t : Stored). t.faces.cells) rest)
-      ∙ changed_beside (with_face_loop None) bare (λ c. refl) old.faces.cells f
+  round_faces : map (option_map bare_face) new.faces.cells ≡ map (option_map bare_face) old.faces.cells
+  round_faces = one_beside bare_face bare_face (λ c. refl) old.faces.cells new.faces.cells f (ap (λ (t : Stored). t.faces.cells) rest)
 
   pub round_pools : SamePools old new
   round_pools = record {
     verts = pool_along (ap (λ (t : Stored). t.verts.cells) rest);
     edges = pool_along (ap (λ (t : Stored). t.edges.cells) rest);
     loops = pool_beside without_round round_loops;
-    faces = pool_beside bare round_faces;
+    faces = pool_beside bare_face round_faces;
     vert_names = ap (λ (t : Stored). t.verts.names) rest;
     edge_names = ap (λ (t : Stored). t.edges.names) rest;
     face_names = ap (λ (t : Stored). t.faces.names) rest;
@@ -177,5 +170,5 @@ module _ (old new : Stored) (f : ℕ) (rest : beside_round new f ≡ beside_roun
   -- every other face is as long
   pub round_lens : (g : ℕ) → g ≢ f → len_of new g ≡ len_of old g
   round_lens g ne =
-      let other = λ (t : Stored). changed_elsewhere (with_face_len 0) (changed (with_face_loop None) t.faces.cells f) f g ne ∙ changed_elsewhere (with_face_loop None) t.faces.cells f g ne in
+      let other = λ (t : Stored). changed_elsewhere bare_face t.faces.cells f g ne in
       ap (option_map (λ (c : FaceCell). c.len)) (sym (other new) ∙ ap (λ (t : Stored). at t.faces.cells g) rest ∙ other old)

@@ -4,7 +4,7 @@ use Rattle.std.specs.Iterator.{YieldsFirst}
 use Rattle.std.specs.List.{cons_option}
 use Rattle.std.specs.Option.{option_map}
 use Rattle.raw_pool.specs.declared.pool.Slot.{Slot}
-use Rattle.raw_pool.specs.Slots.{IsLive, NoneLiveFrom}
+use Rattle.raw_pool.specs.Slots.{NoneLiveFrom}
 use Rattle.link_ring.specs.Members.{HasMember, AllDistinct}
 use Rattle.mesh_store.specs.Slots.{at, LeadsFirst}
 use Rattle.mesh_store.specs.Naming.{AreNamed}
@@ -37,15 +37,6 @@ first_by_name (o ∷ names) (suc low) (suc name) s from here none =
 pub named_number : {X : Type 0} (number : X → ℕ) (cells : List (Option X)) (names : List (Option Slot)) (low : ℕ) (s : Slot) (n : ℕ)
     → AreNamed number cells names → (l : LeadsFirst names low s) → option_map number (at cells s.0) ≡ Some n → n ≡ l.name
 named_number number cells names low s n a l e = let m = a.live l.name s l.here in (cc)
-
--- a cell with a number is live
-numbered_live : {X : Type 0} (number : X → ℕ) (o : Option X) (n : ℕ) → option_map number o ≡ Some n → IsLive (o ∷ []) 0
-numbered_live number None n e = absurd (cc)
-numbered_live number (Some x) n e = refl
-
--- a name leads to a live slot
-pub named_live : {X : Type 0} (number : X → ℕ) (cells : List (Option X)) (names : List (Option Slot)) (low : ℕ) (s : Slot) → AreNamed number cells names → LeadsFirst names low s → IsLive cells s.0
-named_live number cells names low s a l = numbered_live number (at cells s.0) l.name (a.live l.name s l.here)
 
 -- one step
 pub next_by_name : {X : Type 0} (number : X → ℕ) (cells : List (Option X)) (names : List (Option Slot)) (low : ℕ) (s : Slot) (n : ℕ)

@@ -10,7 +10,7 @@ use Rattle.mesh_store.specs.Slots.{at, changed}
 use Rattle.mesh_store.proofs.Places.{unwritten}
 
 -- what g tells of a cell is what it tells of the cell that f gives
-kept : {X Z : Type 0} (f : X → X) (g : Option X → Z) → ((x : X) → g (Some x) ≡ g (Some (f x))) → (o : Option X) → g o ≡ g (option_map f o)
+pub kept : {X Z : Type 0} (f : X → X) (g : Option X → Z) → ((x : X) → g (Some x) ≡ g (Some (f x))) → (o : Option X) → g o ≡ g (option_map f o)
 kept f g same None = refl
 kept f g same (Some x) = same x
 
@@ -28,7 +28,7 @@ as_long {X} {Y} f xs ys e =
     sym (length-map ys (option_map f)) ∙ ap (λ (zs : List (Option Y)). length zs) e ∙ length-map xs (option_map f)
 
 -- of two changes of a cell, of which the second covers the first
-covered : {X Y : Type 0} (f : X → X) (g : X → Y) → ((x : X) → g (f x) ≡ g x) → (o : Option X) → option_map g (option_map f o) ≡ option_map g o
+pub covered : {X Y : Type 0} (f : X → X) (g : X → Y) → ((x : X) → g (f x) ≡ g x) → (o : Option X) → option_map g (option_map f o) ≡ option_map g o
 covered f g same None = refl
 covered {Y = Y} f g same (Some x) = ap (λ (y : Y). Some y) (same x)
 
@@ -67,3 +67,8 @@ changed_here f (x ∷ xs) (suc s) = changed_here f xs s
 -- and nowhere else
 pub changed_elsewhere : {X : Type 0} (f : X → X) (xs : List (Option X)) (s t : ℕ) → t ≢ s → at (changed f xs s) t ≡ at xs t
 changed_elsewhere f xs s t n = unwritten xs s t (option_map f (at xs s)) n
+
+-- what g gives of a value, f leads back to the value
+pub led_back : {X Y : Type 0} (f : Y → X) (g : X → Y) → ((x : X) → f (g x) ≡ x) → (o : Option X) → option_map f (option_map g o) ≡ o
+led_back f g same None = refl
+led_back {X} f g same (Some x) = ap (λ (y : X). Some y) (same x)

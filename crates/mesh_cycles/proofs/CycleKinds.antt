@@ -1,13 +1,13 @@
 -- One kind of cycles of a store, before and after one of them changes.
 use Rattle.std.proofs.Common.{◌≡◌, ◌≢◌, ℕ, Bool, List, [], ◌∷◌, ◌++◌, Option, Some, sym, ap, ◌∙◌, subst, inl, inr}
 use Rattle.std.proofs.lemmas.Bool.{cases_eq}
+use Rattle.std.proofs.lemmas.Option.{same_Some}
 use Rattle.link_ring.specs.Members.{HasMember}
 use Rattle.link_ring.specs.Ring.{LinkMap, ReadsAs}
 use Rattle.link_ring.specs.Changes.{SameOutside}
 use Rattle.link_ring.proofs.Members.{member_of, member_flip, member_left, member_right, member_cases}
 use Rattle.link_ring.proofs.Paths.{IsIdentityTest, IsLimit}
 use Rattle.link_ring.proofs.Reading.{reads_at, reads_along, reads_elsewhere}
-use Rattle.mesh_store.proofs.Places.{some_differ}
 use Rattle.mesh_cycles.specs.Lists.{ring_list}
 use Rattle.mesh_cycles.proofs.RingLists.{list_read}
 
@@ -46,7 +46,7 @@ module _ {K : Type 0} (same : K → K → Bool) (t : IsIdentityTest same) where
   other_reads : {old new : Kind K} {o : ℕ} {touched now : List K} → Holds same old → Changes old new o touched now
       → (p : ℕ) → p ≢ o → ReadsAs new.links (new.first p) (cycle_at same old p)
   other_reads h c p ne =
-      reads_at (reads_elsewhere c.outside (λ j a b. ne (some_differ (sym (h.owned p j a) ∙ c.near j b))) (h.reads p)) (sym (c.firsts p ne))
+      reads_at (reads_elsewhere c.outside (λ j a b. ne (same_Some _ _ (sym (h.owned p j a) ∙ c.near j b))) (h.reads p)) (sym (c.firsts p ne))
 
   -- and has the same members
   pub other_cycles : {old new : Kind K} {o : ℕ} {touched now : List K} → Holds same old → Changes old new o touched now
@@ -70,7 +70,7 @@ module _ {K : Type 0} (same : K → K → Bool) (t : IsIdentityTest same) where
   pub in_none : {old new : Kind K} {o : ℕ} {touched now : List K} → Holds same old → Changes old new o touched now
       → (k : K) → old.owner k ≡ Some o → (HasMember now k → ⊥) → (p : ℕ) → HasMember (cycle_at same new p) k → ⊥
   in_none {old} {new} {o} {touched} {now} h c k owned out p m =
-      let e : p ≡ o = some_differ (sym ((still_holds h c).owned p k m) ∙ c.owners k ∙ owned) in
+      let e : p ≡ o = same_Some _ _ (sym ((still_holds h c).owned p k m) ∙ c.owners k ∙ owned) in
       out (member_of k m (ap (cycle_at same new) e ∙ own_cycle c))
 
 -- ---- the members of a cycle that one more, or one less, is in

@@ -2,6 +2,7 @@
 use Rattle.std.proofs.Common.{◌≡◌, ◌≢◌, ◌<◌, ℕ, zero, suc, List, [], ◌∷◌, ◌++◌, Option, Some, None, map, refl, sym, ap, ◌∙◌, subst, inl, arith}
 use Rattle.std.specs.Option.{option_map, option_map_or, option_and_then}
 use Rattle.std.proofs.lemmas.Bool.{eq-eqb, ne_eqb}
+use Rattle.std.proofs.lemmas.Option.{same_Some}
 use Rattle.raw_pool.specs.declared.pool.Slot.{Slot}
 use Rattle.raw_pool.specs.Slots.{IsLive}
 use Rattle.link_ring.specs.Members.{HasMember}
@@ -17,15 +18,14 @@ use Rattle.mesh_store.specs.declared.cells.Radial.{Radial}
 use Rattle.mesh_store.specs.declared.cells.Round.{Round}
 use Rattle.mesh_store.specs.declared.cells.VertCell.{VertCell}
 use Rattle.mesh_store.specs.declared.cells.EdgeCell.{EdgeCell}
-use Rattle.mesh_store.proofs.Places.{some_differ}
 use Rattle.mesh_cycles.specs.Owners.{end_on, side_at, dart_at, dart_end, first_dart, first_radial}
 use Rattle.mesh_cycles.specs.Lists.{same_dart, same_radial, same_round, without}
-use Rattle.mesh_cycles.specs.Cycles.{AreCycles, disk_of, IsInNoDisk}
+use Rattle.mesh_cycles.specs.Cycles.{AreCycles, disk_of, IsInNoDisk, EndsDiffer}
 use Rattle.mesh_cycles.specs.Edits.{SameDisksBut, SameRadials, SameRounds, beside_disk}
 use Rattle.mesh_cycles.proofs.CycleKinds.{Kind, Holds, Changes, cycle_at, own_cycle, other_cycles, still_holds, in_none, near_more, last_more}
 use Rattle.mesh_cycles.proofs.RingLists.{parted}
 use Rattle.mesh_cycles.proofs.Cells.{told, changed_over, live_cell, changed_here, changed_elsewhere}
-use Rattle.mesh_cycles.proofs.Frames.{EndsDiffer, differ_along, disk_kind, radial_kind, round_kind, disks_hold, radials_hold, rounds_hold, are_cycles, dart_test}
+use Rattle.mesh_cycles.proofs.Frames.{differ_along, disk_kind, radial_kind, round_kind, disks_hold, radials_hold, rounds_hold, are_cycles, dart_test}
 
 -- ---- the first dart
 
@@ -40,7 +40,7 @@ dart_back st v d differ e low = λ i. record { edge = d.edge; side = side_back (
 
     side_back : (o : Option EdgeCell) → ((c : EdgeCell) → o ≡ Some c → end_on 0 c ≢ end_on 1 c) → option_map (end_on d.side) o ≡ Some v → option_map_or (side_at v) o 0 ≡ d.side
     side_back None n p = absurd (let q : None ≡ Some v = p in cc)
-    side_back (Some c) n p = side_of c d.side low (n c refl) (some_differ p)
+    side_back (Some c) n p = side_of c d.side low (n c refl) (same_Some _ _ p)
 
 -- so the edge of a first dart gives the dart back
 firsts_back : (f : Slot → Dart) (xs : List Dart) → ((d : Dart) → HasMember xs d → f d.edge ≡ d) → option_map f (option_map (λ (d : Dart). d.edge) (first_of xs)) ≡ first_of xs
@@ -49,8 +49,9 @@ firsts_back f (x ∷ xs) h = ap (λ (d : Dart). Some d) (h x (inl refl))
 
 -- ---- what the clauses of a call say
 
-pub record DiskEdited (old new : Stored) (v : ℕ) (now : List Dart) : Type 0 where
+pub record DiskEdited (old new : Stored) (v : ℕ) (touched now : List Dart) : Type 0 where
   pub own : disk_of new v ≡ now
+  pub links : SameOutside (dart_links old) (dart_links new) touched
   pub others : SameDisksBut v old new
   pub radials : SameRadials old new
   pub rounds : SameRounds old new
@@ -164,11 +165,12 @@ module _ {old mid new : Stored} {v : ℕ} {head : Option Dart} (w : WritesDisk o
       }
 
   -- what follows of all cycles
-  disk_edited : {touched now : List Dart} → AreCycles old → Changes (disk_kind old) (disk_kind new) v touched now → DiskEdited old new v now
+  disk_edited : {touched now : List Dart} → AreCycles old → Changes (disk_kind old) (disk_kind new) v touched now → DiskEdited old new v touched now
   disk_edited h c =
       let disks = disks_hold old h in
       record {
         own = own_cycle same_dart dart_test c;
+        links = c.outside;
         others = other_cycles same_dart dart_test disks c;
         radials = λ e. ap (λ (k : Kind Radial). cycle_at same_radial k e) radials_stay;
         rounds = λ f. ap (λ (k : Kind Round). cycle_at same_round k f) rounds_stay;
@@ -183,7 +185,7 @@ module _ {old mid new : Stored} {v : ℕ} {head : Option Dart} (w : WritesDisk o
 pub disk_added : (old mid new : Stored) (v : ℕ) (d : Dart) {first head : Option Dart} → AreCycles old → IsLive old.verts.cells v → dart_end old d ≡ Some v
     → first ≡ first_dart old v → (reads : (xs : List Dart) → ReadsAs (dart_links old) first xs → ReadsAs (dart_links mid) head (xs ++ d ∷ []))
     → (others : (xs : List Dart) → ReadsAs (dart_links old) first xs → SameOutside (dart_links old) (dart_links mid) (d ∷ xs))
-    → WritesDisk old mid new v head → DiskEdited old new v (disk_of old v ++ d ∷ [])
+    → WritesDisk old mid new v head → DiskEdited old new v (d ∷ disk_of old v) (disk_of old v ++ d ∷ [])
 disk_added old mid new v d h live end is reads others w =
     let disks = disks_hold old h in let r = reads_at (h.disks v) (sym is) in
     disk_edited w h (disk_changes w (d ∷ disk_of old v) (disk_of old v ++ d ∷ []) live h.differ (reads (disk_of old v) r) (others (disk_of old v) r)
@@ -193,10 +195,10 @@ disk_added old mid new v d h live end is reads others w =
 pub disk_removed : (old mid new : Stored) (v : ℕ) (d : Dart) {first head : Option Dart} → AreCycles old → IsLive old.verts.cells v → HasMember (disk_of old v) d
     → first ≡ first_dart old v → (reads : (xs ys : List Dart) → ReadsAs (dart_links old) first (xs ++ d ∷ ys) → ReadsAs (dart_links mid) head (xs ++ ys))
     → (others : (xs : List Dart) → ReadsAs (dart_links old) first xs → SameOutside (dart_links old) (dart_links mid) xs)
-    → WritesDisk old mid new v head → DiskEdited old new v (without same_dart d (disk_of old v)) × IsInNoDisk new d
+    → WritesDisk old mid new v head → DiskEdited old new v (disk_of old v) (without same_dart d (disk_of old v)) × IsInNoDisk new d
 disk_removed old mid new v d h live member is reads others w =
     let disks = disks_hold old h in let r = reads_at (h.disks v) (sym is) in let s = parted same_dart dart_test d (h.disks v) member in
     let c = disk_changes w (disk_of old v) (s.before ++ s.after) live h.differ (reads s.before s.after (reads_along r s.whole)) (others (disk_of old v) r)
     (disks.owned v) (λ j m. disks.owned v j (s.within j m)) in
-    let P = DiskEdited old new v in
+    let P = DiskEdited old new v (disk_of old v) in
     (subst P (sym s.less) (disk_edited w h c), in_none same_dart dart_test disks c d (h.disk_ends v d member) s.out)

@@ -5,6 +5,7 @@ use Rattle.std.proofs.Common.{◌≡◌, ◌≢◌, ◌<◌, ◌*◌, ℕ, ℤ, 
 use Rattle.std.specs.Prelude.{slice_set, slice_index_or}
 use Rattle.std.specs.Option.{option_map, option_and_then}
 use Rattle.std.proofs.lemmas.Bool.{false≢true}
+use Rattle.std.proofs.lemmas.Option.{same_Some}
 use Rattle.raw_pool.specs.declared.pool.Slot.{Slot}
 use Rattle.raw_pool.specs.Slots.{GrowsFor}
 use Rattle.link_ring.specs.Members.{HasMember}
@@ -12,7 +13,7 @@ use Rattle.link_ring.proofs.Members.{member_of}
 use Rattle.mesh_store.specs.Limits.{is_dart}
 use Rattle.mesh_store.specs.Slots.{at}
 use Rattle.mesh_store.specs.Naming.{NamedCells, without_cell}
-use Rattle.mesh_store.specs.Stored.{Stored, dart_links, radial_links, round_links, new_vert, new_edge, new_loop, new_face, no_slot, with_point, with_ends, with_loop_vert, with_loop_edge, with_loop_face, change_vert, change_edge, change_loop}
+use Rattle.mesh_store.specs.Stored.{Stored, dart_links, radial_links, round_links, new_vert, new_edge, new_loop, new_face, no_slot, with_point, with_ends, with_loop_vert, with_loop_edge, with_loop_face, with_face_len, change_vert, change_edge, change_loop, change_face}
 use Rattle.mesh_store.specs.Room.{WidensStore}
 use Rattle.mesh_store.specs.declared.cells.Dart.{Dart}
 use Rattle.mesh_store.specs.declared.cells.Radial.{Radial}
@@ -22,12 +23,14 @@ use Rattle.mesh_store.specs.declared.cells.EdgeCell.{EdgeCell}
 use Rattle.mesh_store.specs.declared.cells.LoopCell.{LoopCell}
 use Rattle.mesh_store.specs.declared.cells.FaceCell.{FaceCell}
 use Rattle.mesh_store.proofs.Growth.{at_longer}
-use Rattle.mesh_store.proofs.Places.{written, unwritten, some_differ}
+use Rattle.mesh_store.proofs.Places.{written, unwritten}
 use Rattle.mesh_cycles.specs.Owners.{end_on, dart_at, first_radial, first_round}
 use Rattle.mesh_cycles.specs.Lists.{ring_list, same_dart, same_radial, same_round}
-use Rattle.mesh_cycles.specs.Cycles.{AreCycles, disk_of, radial_of, round_of, IsInNoDisk, IsInNoRadial, IsInNoRound}
-use Rattle.mesh_cycles.proofs.Frames.{EndsDiffer}
-use Rattle.mesh_cycles.proofs.Stays.{radial_part, round_part, SameCycles, same_cycles, first_edge_in, first_by, member_key, empty_first}
+use Rattle.mesh_cycles.specs.Cycles.{AreCycles, disk_of, radial_of, round_of, IsInNoDisk, IsInNoRadial, IsInNoRound, EndsDiffer}
+use Rattle.mesh_cycles.proofs.RingLists.{member_key}
+use Rattle.mesh_cycles.proofs.Cells.{covered}
+use Rattle.mesh_cycles.proofs.Rounds.{face_loop_in}
+use Rattle.mesh_cycles.proofs.Stays.{radial_part, round_part, SameCycles, same_cycles, first_edge_in, first_by, empty_first}
 
 -- ---- one cell of a pool
 
@@ -133,10 +136,6 @@ module _ (old : Stored) (h : AreCycles old) where
 abbrev first_loop_in : Option EdgeCell → Option Radial
 first_loop_in = option_and_then (λ (c : EdgeCell). option_map (λ (l : Slot). record { 0 = l }) c.first_loop)
 
--- the loop cycle with which a face begins
-abbrev face_loop_in : Option FaceCell → Option Round
-face_loop_in = option_and_then (λ (c : FaceCell). option_map (λ (l : Slot). record { 0 = l }) c.first_loop)
-
 -- ---- what is in no cycle is no member
 
 not_dart : (st : Stored) (s : Slot) → ((side : ℕ) → IsInNoDisk st (record { edge = s; side = side })) → (v : ℕ) (d : Dart) → HasMember (disk_of st v) d → d.edge.0 ≢ s.0
@@ -150,15 +149,10 @@ not_round st s none f l m p = let P = HasMember (round_of st f) in none f (subst
 
 -- ---- what a write of one field leaves
 
--- what g tells of a value and of the value written, it tells of what stands
-same_told : {X Y : Type 0} (f : X → X) (g : X → Y) → ((x : X) → g (f x) ≡ g x) → (o : Option X) → option_map g (option_map f o) ≡ option_map g o
-same_told f g same None = refl
-same_told {Y = Y} f g same (Some x) = ap (λ (y : Y). Some y) (same x)
-
 -- the ends of an edge that were written differ
 ends_differ : (to : List Slot) (o : Option EdgeCell) → (slice_index_or to 0 no_slot).0 ≢ (slice_index_or to 1 no_slot).0 → (c : EdgeCell) → option_map (with_ends to) o ≡ Some c → end_on 0 c ≢ end_on 1 c
 ends_differ to None n c e = absurd (let q : None ≡ Some c = e in cc)
-ends_differ to (Some b) n c e = let Q = λ (x : EdgeCell). end_on 0 x ≢ end_on 1 x in subst Q (some_differ e) n
+ends_differ to (Some b) n c e = let Q = λ (x : EdgeCell). end_on 0 x ≢ end_on 1 x in subst Q (same_Some _ _ e) n
 
 -- ---- what an added element has
 
@@ -288,7 +282,7 @@ module _ (old new : Stored) (s : Slot) (h : AreCycles old) where
       same_edge None = refl
       same_edge (Some c) = refl
 
-  -- ---- a loop's or an edge's field is written
+  -- ---- a field of a loop, an edge or a face is written
 
   -- the vertex of any loop
   pub loop_vert_written : (to : Slot) → new ≡ change_loop (with_loop_vert to) old s.0 → SameCycles old new
@@ -296,8 +290,8 @@ module _ (old new : Stored) (s : Slot) (h : AreCycles old) where
       let now = option_map (with_loop_vert to) (at old.loops s.0) in
       subst (SameCycles old) (sym is)
       (loops_change old h (slice_set old.loops s.0 now)
-      (λ e l m. told_set (option_map radial_part) old.loops s.0 now (same_told (with_loop_vert to) radial_part (λ c. refl) (at old.loops s.0)) l.0.0)
-      (λ f l m. told_set (option_map round_part) old.loops s.0 now (same_told (with_loop_vert to) round_part (λ c. refl) (at old.loops s.0)) l.0.0))
+      (λ e l m. told_set (option_map radial_part) old.loops s.0 now (covered (with_loop_vert to) radial_part (λ c. refl) (at old.loops s.0)) l.0.0)
+      (λ f l m. told_set (option_map round_part) old.loops s.0 now (covered (with_loop_vert to) round_part (λ c. refl) (at old.loops s.0)) l.0.0))
 
   -- the edge of a loop that is in no radial cycle
   pub loop_edge_written : (to : Slot) → IsInNoRadial old s → new ≡ change_loop (with_loop_edge to) old s.0 → SameCycles old new
@@ -306,7 +300,7 @@ module _ (old new : Stored) (s : Slot) (h : AreCycles old) where
       subst (SameCycles old) (sym is)
       (loops_change old h (slice_set old.loops s.0 now)
       (λ e l m. ap (option_map radial_part) (unwritten old.loops s.0 l.0.0 now (not_radial old s no_radial e l m)))
-      (λ f l m. told_set (option_map round_part) old.loops s.0 now (same_told (with_loop_edge to) round_part (λ c. refl) (at old.loops s.0)) l.0.0))
+      (λ f l m. told_set (option_map round_part) old.loops s.0 now (covered (with_loop_edge to) round_part (λ c. refl) (at old.loops s.0)) l.0.0))
 
   -- the face of a loop that is in no loop cycle
   pub loop_face_written : (to : Slot) → IsInNoRound old s → new ≡ change_loop (with_loop_face to) old s.0 → SameCycles old new
@@ -314,7 +308,7 @@ module _ (old new : Stored) (s : Slot) (h : AreCycles old) where
       let now = option_map (with_loop_face to) (at old.loops s.0) in
       subst (SameCycles old) (sym is)
       (loops_change old h (slice_set old.loops s.0 now)
-      (λ e l m. told_set (option_map radial_part) old.loops s.0 now (same_told (with_loop_face to) radial_part (λ c. refl) (at old.loops s.0)) l.0.0)
+      (λ e l m. told_set (option_map radial_part) old.loops s.0 now (covered (with_loop_face to) radial_part (λ c. refl) (at old.loops s.0)) l.0.0)
       (λ f l m. ap (option_map round_part) (unwritten old.loops s.0 l.0.0 now (not_round old s no_round f l m))))
 
   -- the ends of an edge whose darts are in no disk cycle: two different ones
@@ -330,6 +324,18 @@ module _ (old new : Stored) (s : Slot) (h : AreCycles old) where
       (differ_set cells s.0 now (ends_differ to (at cells s.0) differ) h.differ))
     where
       same_loop : (o : Option EdgeCell) → first_loop_in (option_map (with_ends to) o) ≡ first_loop_in o
+      same_loop None = refl
+      same_loop (Some c) = refl
+
+  -- the length of a face
+  pub face_len_written : (to : ℕ) → new ≡ change_face (with_face_len to) old s.0 → SameCycles old new
+  face_len_written to is =
+      let cells = old.faces.cells in
+      let now = option_map (with_face_len to) (at cells s.0) in
+      subst (SameCycles old) (sym is)
+      (faces_change old h (record { cells = slice_set cells s.0 now; names = old.faces.names }) (told_set face_loop_in cells s.0 now (same_loop (at cells s.0))))
+    where
+      same_loop : (o : Option FaceCell) → face_loop_in (option_map (with_face_len to) o) ≡ face_loop_in o
       same_loop None = refl
       same_loop (Some c) = refl
 

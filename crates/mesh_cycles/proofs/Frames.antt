@@ -1,10 +1,10 @@
 -- The three kinds of cycles of a store, and what each is read from.
 use Rattle.std.proofs.Common.{◌≡◌, ◌≢◌, ◌*◌, ℕ, ◌==◌, List, Option, Some, None, length, refl, sym, ap, ◌∙◌}
 use Rattle.std.specs.Option.{option_map}
-use Rattle.std.proofs.lemmas.Bool.{eqb-true, eq-eqb}
+use Rattle.std.proofs.lemmas.Bool.{and_parts, eqb-true, eq-eqb}
+use Rattle.std.proofs.lemmas.Option.{same_Some}
 use Rattle.link_ring.proofs.Paths.{IsIdentityTest}
-use Rattle.mesh_store.specs.Limits.{both}
-use Rattle.mesh_store.specs.Limits.{same_dart as dart_along}
+use Rattle.mesh_store.specs.Limits.{equal_darts}
 use Rattle.mesh_store.specs.Slots.{at}
 use Rattle.mesh_store.specs.Stored.{Stored, dart_links, radial_links, round_links}
 use Rattle.mesh_store.specs.declared.cells.Dart.{Dart}
@@ -13,15 +13,14 @@ use Rattle.mesh_store.specs.declared.cells.Round.{Round}
 use Rattle.mesh_store.specs.declared.cells.EdgeCell.{EdgeCell}
 use Rattle.mesh_cycles.specs.Owners.{end_on, dart_end, edge_of, face_of, first_dart, first_radial, first_round}
 use Rattle.mesh_cycles.specs.Lists.{same_dart, same_radial, same_round}
-use Rattle.mesh_cycles.specs.Cycles.{AreCycles}
+use Rattle.mesh_cycles.specs.Cycles.{AreCycles, EndsDiffer, dart_limit, loop_limit}
 use Rattle.mesh_cycles.proofs.CycleKinds.{Kind, Holds}
-use Rattle.mesh_store.proofs.Places.{some_differ}
 
 -- ---- the three tests
 
 pub dart_test : IsIdentityTest same_dart
 dart_test = record {
-  one = λ a b h. let p = both (a.edge.0 == b.edge.0) (a.side == b.side) h in dart_along a b (eqb-true a.edge.0 b.edge.0 p.0) (eqb-true a.side b.side p.1);
+  one = λ a b h. let p = and_parts (a.edge.0 == b.edge.0) (a.side == b.side) h in equal_darts a b (eqb-true a.edge.0 b.edge.0 p.0) (eqb-true a.side b.side p.1);
   same = λ a. rw (eq-eqb a.edge.0 a.edge.0 refl) (eq-eqb a.side a.side refl);
 }
 
@@ -34,17 +33,13 @@ round_test = record { one = λ a b h. (let e = eqb-true a.0.0 b.0.0 h in λ i. r
 -- ---- the three kinds
 
 abbrev pub disk_kind : Stored → Kind Dart
-disk_kind st = record { links = dart_links st; limit = 2 * length st.edges.cells; first = first_dart st; owner = dart_end st }
+disk_kind st = record { links = dart_links st; limit = dart_limit st; first = first_dart st; owner = dart_end st }
 
 abbrev pub radial_kind : Stored → Kind Radial
-radial_kind st = record { links = radial_links st; limit = length st.loops; first = first_radial st; owner = λ l. edge_of st l.0 }
+radial_kind st = record { links = radial_links st; limit = loop_limit st; first = first_radial st; owner = λ l. edge_of st l.0 }
 
 abbrev pub round_kind : Stored → Kind Round
-round_kind st = record { links = round_links st; limit = length st.loops; first = first_round st; owner = λ l. face_of st l.0 }
-
--- the two ends of each edge differ
-abbrev pub EndsDiffer : List (Option EdgeCell) → Type 0
-EndsDiffer cells = (e : ℕ) (c : EdgeCell) → at cells e ≡ Some c → end_on 0 c ≢ end_on 1 c
+round_kind st = record { links = round_links st; limit = loop_limit st; first = first_round st; owner = λ l. face_of st l.0 }
 
 pub disks_hold : (st : Stored) → AreCycles st → Holds same_dart (disk_kind st)
 disks_hold st h = record { reads = h.disks; owned = h.disk_ends }
@@ -67,4 +62,4 @@ differ_along old new same differ e c is =
     differs_in : (o : Option EdgeCell) → ((b : EdgeCell) → o ≡ Some b → end_on 0 b ≢ end_on 1 b) → option_map (end_on 0) o ≡ Some (end_on 0 c) → option_map (end_on 1) o ≡ Some (end_on 1 c)
         → end_on 0 c ≢ end_on 1 c
     differs_in None n p q e = absurd (let r : None ≡ Some (end_on 0 c) = p in cc)
-    differs_in (Some b) n p q e = n b refl (some_differ p ∙ e ∙ sym (some_differ q))
+    differs_in (Some b) n p q e = n b refl (same_Some _ _ p ∙ e ∙ sym (same_Some _ _ q))

@@ -2,19 +2,18 @@
 use Rattle.std.proofs.Common.{◌≡◌, ℕ, ◌≤◌, ◌<◌, ◌==◌, ◌&&◌, ◌||◌, true, false, List, [], ◌∷◌, ◌++◌, Option, Some, None, refl, sym, ap, ◌∙◌, subst, inl, inr, arith}
 use Rattle.std.specs.Prelude.{MatchOption, IfSome}
 use Rattle.std.specs.Option.{option_map_or}
-use Rattle.std.proofs.lemmas.Bool.{false≢true, or_cases, cases_lt, eqb-true}
+use Rattle.std.proofs.lemmas.Bool.{and_parts, false≢true, or_cases, cases_lt, eqb-true}
 use Rattle.raw_pool.specs.declared.pool.Slot.{Slot}
 use Rattle.link_ring.specs.Members.{HasMember}
+use Rattle.link_ring.specs.Mapped.{mapped_to}
 use Rattle.link_ring.proofs.Members.{member_left, member_right, member_cases, member_one}
 use Rattle.mesh_store.specs.Slots.{at}
 use Rattle.mesh_store.specs.Stored.{Stored}
-use Rattle.mesh_store.specs.Limits.{both}
 use Rattle.mesh_store.specs.declared.cells.Dart.{Dart}
 use Rattle.mesh_store.specs.declared.cells.EdgeCell.{EdgeCell}
 use Rattle.mesh_cycles.specs.Owners.{end_on}
-use Rattle.mesh_cycles.specs.Cycles.{disk_of}
-use Rattle.mesh_cycles.specs.Found.{edges_around, HasWholeDisk, joins, NoneJoins, JoinsFirst, number_of}
-use Rattle.mesh_cycles.proofs.Mapped.{mapped_to}
+use Rattle.mesh_cycles.specs.Cycles.{HasWholeDisk, disk_of}
+use Rattle.mesh_cycles.specs.Found.{edges_around, joins, NoneJoins, JoinsFirst, number_of}
 
 -- an edge that joins a vertex to another is around it
 joins_by : (st : Stored) (a b : ℕ) (e : Slot) (o : Option EdgeCell) → at st.edges.cells e.0 ≡ o → HasWholeDisk st a
@@ -22,11 +21,11 @@ joins_by : (st : Stored) (a b : ℕ) (e : Slot) (o : Option EdgeCell) → at st.
 joins_by st a b e None was w h = absurd (false≢true h)
 joins_by st a b e (Some c) was w h = elim (or_cases ((end_on 0 c == a) && (end_on 1 c == b)) ((end_on 0 c == b) && (end_on 1 c == a)) h) [
   | inl p ↦
-      let t = both (end_on 0 c == a) (end_on 1 c == b) p in
+      let t = and_parts (end_on 0 c == a) (end_on 1 c == b) p in
       let d : Dart = record { edge = e; side = 0 } in
       mapped_to (λ (d : Dart). d.edge) (disk_of st a) d (w d (rw was refl) (rw was (ap Some (eqb-true (end_on 0 c) a t.0))))
   | inr p ↦
-      let t = both (end_on 0 c == b) (end_on 1 c == a) p in
+      let t = and_parts (end_on 0 c == b) (end_on 1 c == a) p in
       let d : Dart = record { edge = e; side = 1 } in
       mapped_to (λ (d : Dart). d.edge) (disk_of st a) d (w d (rw was refl) (rw was (ap Some (eqb-true (end_on 1 c) a t.1))))
 ]

@@ -11,8 +11,9 @@ pub mod Mapped
 pub mod Around
 pub mod Joining
 pub mod ByName
+pub mod Leaders
 pub mod Faces
 pub mod Besides
 pub mod TestStores
 pub mod LoopCalls
-mod Samples
+pub mod Counts

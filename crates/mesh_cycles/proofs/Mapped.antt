@@ -1,38 +1,9 @@
--- Members of lists that are mapped, filtered or joined, and when none of them stands twice.
+-- Members of lists that are filtered or joined, and when none of them stands twice.
 use Rattle.std.proofs.Common.{append_assoc, append-nil, ◌≡◌, ◌⊎◌, Bool, true, false, cond, List, [], ◌∷◌, ◌++◌, Option, Some, map, refl, sym, ap, ◌∙◌, subst, inl, inr}
 use Rattle.std.specs.List.{filter, find, flat_map}
 use Rattle.std.proofs.lemmas.Bool.{false≢true}
 use Rattle.link_ring.specs.Members.{HasMember, AllDistinct}
 use Rattle.link_ring.proofs.Members.{member_along, member_of, member_left, member_right, member_cases, distinct_join}
-
--- ---- map
-
--- what a mapped member is the image of
-pub record ImageOf {A B : Type 0} (f : A → B) (xs : List A) (y : B) : Type 0 where
-  pub of : A
-  pub member : HasMember xs of
-  pub is : f of ≡ y
-
--- a member of a mapped list is the image of a member
-pub mapped_from : {A B : Type 0} (f : A → B) (xs : List A) (y : B) → HasMember (map f xs) y → ImageOf f xs y
-mapped_from f [] y h = absurd h
-mapped_from f (x ∷ xs) y h = elim h [
-  | inl e ↦ record { of = x; member = inl refl; is = e }
-  | inr r ↦ (let t = mapped_from f xs y r in record { of = t.of; member = inr t.member; is = t.is })
-]
-
--- the image of a member is a member
-pub mapped_to : {A B : Type 0} (f : A → B) (xs : List A) (x : A) → HasMember xs x → HasMember (map f xs) (f x)
-mapped_to f [] x h = absurd h
-mapped_to f (y ∷ xs) x h = elim h [ inl e ↦ inl (ap f e) | inr r ↦ inr (mapped_to f xs x r) ]
-
--- different members have different images where no two have the same
-pub distinct_map : {A B : Type 0} (f : A → B) (xs : List A) → ((a b : A) → HasMember xs a → HasMember xs b → f a ≡ f b → a ≡ b) → AllDistinct xs → AllDistinct (map f xs)
-distinct_map f [] one d = tt
-distinct_map f (x ∷ xs) one d = (
-  (λ h. let t = mapped_from f xs (f x) h in d.0 (member_along xs t.member (one t.of x (inr t.member) (inl refl) t.is))),
-  distinct_map f xs (λ a b p q e. one a b (inr p) (inr q) e) d.1,
-)
 
 -- ---- filter
 

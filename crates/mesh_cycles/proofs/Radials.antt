@@ -22,25 +22,21 @@ use Rattle.mesh_cycles.specs.Cycles.{AreCycles, radial_of, IsInNoRadial}
 use Rattle.mesh_cycles.specs.Edits.{SameDisks, SameRadialsBut, SameRounds, beside_radial}
 use Rattle.mesh_cycles.proofs.RingLists.{parted}
 use Rattle.mesh_cycles.proofs.CycleKinds.{Kind, Holds, Changes, cycle_at, own_cycle, other_cycles, still_holds, in_none, near_more, last_more}
-use Rattle.mesh_cycles.proofs.Cells.{told, as_long, changed_beside, changed_over, live_cell, changed_here, changed_elsewhere}
+use Rattle.mesh_cycles.proofs.Cells.{told, as_long, changed_beside, changed_over, live_cell, changed_here, changed_elsewhere, led_back}
 use Rattle.mesh_cycles.proofs.Frames.{differ_along, disk_kind, radial_kind, round_kind, disks_hold, radials_hold, rounds_hold, are_cycles, radial_test}
 
 -- the loop by its place in a radial cycle
-abbrev in_radial : Slot → Radial
-in_radial l = record { 0 = l }
-
--- the slot of a first loop gives the loop back
-first_back : (o : Option Radial) → option_map in_radial (option_map (λ (l : Radial). l.0) o) ≡ o
-first_back None = refl
-first_back (Some l) = refl
+abbrev as_radial : Slot → Radial
+as_radial l = record { 0 = l }
 
 -- the slot of a first loop that may be None
 abbrev slot_in : Option Radial → Option Slot
 slot_in head = option_map (λ (l : Radial). l.0) head
 
 -- what the clauses of a call say
-pub record RadialEdited (old new : Stored) (e : ℕ) (now : List Radial) : Type 0 where
+pub record RadialEdited (old new : Stored) (e : ℕ) (touched now : List Radial) : Type 0 where
   pub own : radial_of new e ≡ now
+  pub links : SameOutside (radial_links old) (radial_links new) touched
   pub disks : SameDisks old new
   pub others : SameRadialsBut e old new
   pub rounds : SameRounds old new
@@ -139,11 +135,11 @@ module _ {old mid new : Stored} {e : ℕ} {head : Option Radial} (w : WritesRadi
       let links : radial_links new ≡ radial_links mid = ap radial_links w.write in
       let P = λ (m : LinkMap Radial). ReadsAs m head now in
       let Q = λ (m : LinkMap Radial). SameOutside (radial_links old) m touched in
-      let firsts = option_and_then (λ (c : EdgeCell). option_map in_radial c.first_loop) in
+      let firsts = option_and_then (λ (c : EdgeCell). option_map as_radial c.first_loop) in
       let cell = live_cell old.edges.cells e live in
       let own : first_radial new e ≡ head =
       ap (λ (cs : List (Option EdgeCell)). firsts (at cs e)) edges_now
-      ∙ ap firsts (changed_here (with_first_loop (slot_in head)) old.edges.cells e ∙ ap (option_map (with_first_loop (slot_in head))) cell.1) ∙ first_back head in
+      ∙ ap firsts (changed_here (with_first_loop (slot_in head)) old.edges.cells e ∙ ap (option_map (with_first_loop (slot_in head))) cell.1) ∙ led_back as_radial (λ (l : Radial). l.0) (λ l. refl) head in
       record {
         reads = reads_at (subst P (sym links) r) (sym own);
         firsts = λ p ne. ap (λ (cs : List (Option EdgeCell)). firsts (at cs p)) edges_now ∙ ap firsts (changed_elsewhere (with_first_loop (slot_in head)) old.edges.cells e p ne);
@@ -155,11 +151,12 @@ module _ {old mid new : Stored} {e : ℕ} {head : Option Radial} (w : WritesRadi
       }
 
   -- what follows of all cycles
-  radial_edited : {touched now : List Radial} → AreCycles old → Changes (radial_kind old) (radial_kind new) e touched now → RadialEdited old new e now
+  radial_edited : {touched now : List Radial} → AreCycles old → Changes (radial_kind old) (radial_kind new) e touched now → RadialEdited old new e touched now
   radial_edited h c =
       let radials = radials_hold old h in
       record {
         own = own_cycle same_radial radial_test c;
+        links = c.outside;
         disks = λ v. ap (λ (k : Kind Dart). cycle_at same_dart k v) disks_stay;
         others = other_cycles same_radial radial_test radials c;
         rounds = λ f. ap (λ (k : Kind Round). cycle_at same_round k f) rounds_stay;
@@ -174,7 +171,7 @@ module _ {old mid new : Stored} {e : ℕ} {head : Option Radial} (w : WritesRadi
 pub radial_added : (old mid new : Stored) (e : ℕ) (l : Radial) {first head : Option Radial} → AreCycles old → IsLive old.edges.cells e → edge_of old l.0 ≡ Some e
     → first ≡ first_radial old e → (reads : (xs : List Radial) → ReadsAs (radial_links old) first xs → ReadsAs (radial_links mid) head (xs ++ l ∷ []))
     → (others : (xs : List Radial) → ReadsAs (radial_links old) first xs → SameOutside (radial_links old) (radial_links mid) (l ∷ xs))
-    → WritesRadial old mid new e head → RadialEdited old new e (radial_of old e ++ l ∷ [])
+    → WritesRadial old mid new e head → RadialEdited old new e (l ∷ radial_of old e) (radial_of old e ++ l ∷ [])
 radial_added old mid new e l h live names is reads others w =
     let radials = radials_hold old h in let r = reads_at (h.radials e) (sym is) in
     radial_edited w h (radial_changes w (l ∷ radial_of old e) (radial_of old e ++ l ∷ []) live (reads (radial_of old e) r) (others (radial_of old e) r)
@@ -184,10 +181,10 @@ radial_added old mid new e l h live names is reads others w =
 pub radial_removed : (old mid new : Stored) (e : ℕ) (l : Radial) {first head : Option Radial} → AreCycles old → IsLive old.edges.cells e → HasMember (radial_of old e) l
     → first ≡ first_radial old e → (reads : (xs ys : List Radial) → ReadsAs (radial_links old) first (xs ++ l ∷ ys) → ReadsAs (radial_links mid) head (xs ++ ys))
     → (others : (xs : List Radial) → ReadsAs (radial_links old) first xs → SameOutside (radial_links old) (radial_links mid) xs)
-    → WritesRadial old mid new e head → RadialEdited old new e (without same_radial l (radial_of old e)) × IsInNoRadial new l.0
+    → WritesRadial old mid new e head → RadialEdited old new e (radial_of old e) (without same_radial l (radial_of old e)) × IsInNoRadial new l.0
 radial_removed old mid new e l h live member is reads others w =
     let radials = radials_hold old h in let r = reads_at (h.radials e) (sym is) in let s = parted same_radial radial_test l (h.radials e) member in
     let c = radial_changes w (radial_of old e) (s.before ++ s.after) live (reads s.before s.after (reads_along r s.whole)) (others (radial_of old e) r)
     (radials.owned e) (λ j m. radials.owned e j (s.within j m)) in
-    let P = RadialEdited old new e in
+    let P = RadialEdited old new e (radial_of old e) in
     (subst P (sym s.less) (radial_edited w h c), in_none same_radial radial_test radials c l (h.radial_edges e l member) s.out)

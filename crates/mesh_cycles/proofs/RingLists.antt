@@ -1,5 +1,5 @@
 -- A ring that is read from a first key, and its list: one member more, one less, and what the links lead through.
-use Rattle.std.proofs.Common.{◌≡◌, ◌+◌, ℕ, Bool, true, false, List, [], ◌∷◌, ◌++◌, Option, Some, None, refl, sym, ap, ◌∙◌, subst, inl, inr, length, length-append, arith}
+use Rattle.std.proofs.Common.{◌≡◌, ◌+◌, ℕ, Bool, true, false, IsTrue, List, [], ◌∷◌, ◌++◌, Option, Some, None, refl, sym, ap, ◌∙◌, subst, inl, inr, length, length-append, arith}
 use Rattle.std.specs.Option.{option_eq}
 use Rattle.std.proofs.lemmas.Bool.{false_from_ne_true, false≢true}
 use Rattle.link_ring.specs.Members.{HasMember, AllDistinct}
@@ -8,7 +8,7 @@ use Rattle.link_ring.specs.Changes.{SameOutside}
 use Rattle.link_ring.proofs.Members.{around, member_of, member_left, member_right, member_cases, distinct_parts}
 use Rattle.link_ring.proofs.Paths.{IsIdentityTest, IsLimit}
 use Rattle.link_ring.proofs.Walks.{path-goes_on, walk_start}
-use Rattle.link_ring.proofs.Reading.{reads_along, taken_others}
+use Rattle.link_ring.proofs.Reading.{member_in_ring, reads_along, taken_others}
 use Rattle.mesh_cycles.specs.Lists.{ring_list, without, with_behind}
 
 -- ---- `==` on a first key
@@ -80,6 +80,10 @@ length_behind xs place k ys = omega (arith, length-append xs (place ∷ k ∷ ys
 pub reads_keys : {K : Type 0} {m : LinkMap K} {first : Option K} {zs : List K} → ReadsAs m first zs → AllKeys m zs
 reads_keys {zs = []} r = tt
 reads_keys {zs = z ∷ zs} r = r.ring.keys
+
+-- so each of them is
+pub member_key : {K : Type 0} {m : LinkMap K} {first : Option K} {zs : List K} (k : K) → ReadsAs m first zs → HasMember zs k → IsTrue (m.has k)
+member_key k r h = (member_in_ring k r h).1.keys.0
 
 -- a ring's members differ
 pub reads_distinct : {K : Type 0} {m : LinkMap K} {first : Option K} {zs : List K} → ReadsAs m first zs → AllDistinct zs

@@ -9,29 +9,26 @@ use Rattle.link_ring.proofs.Reading.{reads_at}
 use Rattle.mesh_store.specs.Limits.{rounds_limited}
 use Rattle.mesh_store.specs.Slots.{at, changed}
 use Rattle.mesh_store.specs.Stored.{Stored, round_links, with_face_loop, with_face_len, change_face, without_round, beside_rounds}
+use Rattle.mesh_store.specs.declared.cells.Dart.{Dart}
 use Rattle.mesh_store.specs.declared.cells.Radial.{Radial}
 use Rattle.mesh_store.specs.declared.cells.Round.{Round}
 use Rattle.mesh_store.specs.declared.cells.LoopCell.{LoopCell}
 use Rattle.mesh_store.specs.declared.cells.FaceCell.{FaceCell}
 use Rattle.mesh_cycles.specs.Owners.{face_of, len_of}
 use Rattle.mesh_cycles.specs.Lists.{same_dart, same_radial, same_round}
-use Rattle.mesh_cycles.specs.Cycles.{AreCycles, round_of}
-use Rattle.mesh_cycles.specs.Edits.{SameRadials, SameRoundsBut, beside_round}
+use Rattle.mesh_cycles.specs.Cycles.{AreCycles, round_of, IsCounted, EndsDiffer}
+use Rattle.mesh_cycles.specs.Edits.{SameDisks, SameRadials, SameRoundsBut, bare_face, beside_round}
 use Rattle.mesh_cycles.proofs.CycleKinds.{Kind, Holds, Changes, cycle_at, own_cycle, other_cycles, still_holds}
 use Rattle.mesh_cycles.proofs.Cells.{told, as_long, changed_twice, changed_over, changed_here, changed_elsewhere}
-use Rattle.mesh_cycles.proofs.Frames.{EndsDiffer, disk_kind, radial_kind, round_kind, disks_hold, radials_hold, rounds_hold, are_cycles, round_test}
+use Rattle.mesh_cycles.proofs.Frames.{disk_kind, radial_kind, round_kind, disks_hold, radials_hold, rounds_hold, are_cycles, round_test}
 
 -- the loop by its place in a loop cycle
-abbrev pub in_round : Slot → Round
-in_round l = record { 0 = l }
+abbrev pub as_round : Slot → Round
+as_round l = record { 0 = l }
 
 -- the loop with which a face's cycle begins
-abbrev pub first_in : Option FaceCell → Option Round
-first_in = option_and_then (λ (c : FaceCell). option_map in_round c.first_loop)
-
--- a face without its first loop and its length
-abbrev pub bare : FaceCell → FaceCell
-bare c = with_face_len 0 (with_face_loop None c)
+abbrev pub face_loop_in : Option FaceCell → Option Round
+face_loop_in = option_and_then (λ (c : FaceCell). option_map as_round c.first_loop)
 
 -- the first loop and the length
 abbrev pub with_loop_and_len : Option Slot → ℕ → FaceCell → FaceCell
@@ -42,9 +39,11 @@ face_twice : (f g : FaceCell → FaceCell) (st : Stored) (s : ℕ) → change_fa
 face_twice f g st s = ap (λ (cs : List (Option FaceCell)). record st { faces = record { cells = cs; names = st.faces.names } }) (changed_twice f g st.faces.cells s)
 
 -- what the clauses of a call say
-pub record RoundEdited (old new : Stored) (f : ℕ) (now : List Round) : Type 0 where
+pub record RoundEdited (old new : Stored) (f : ℕ) (touched now : List Round) : Type 0 where
   pub own : round_of new f ≡ now
-  pub len : len_of new f ≡ Some (length (round_of new f))
+  pub links : SameOutside (round_links old) (round_links new) touched
+  pub len : IsCounted new f
+  pub disks : SameDisks old new
   pub radials : SameRadials old new
   pub others : SameRoundsBut f old new
   pub rest : beside_round new f ≡ beside_round old f
@@ -56,7 +55,7 @@ pub record RoundEdited (old new : Stored) (f : ℕ) (now : List Round) : Type 0 
 pub record WritesRound (old mid new : Stored) (f : ℕ) (g : FaceCell → FaceCell) : Type 0 where
   pub rest : beside_rounds mid ≡ beside_rounds old
   pub write : new ≡ change_face g mid f
-  pub covered : (c : FaceCell) → bare (g c) ≡ bare c
+  pub covered : (c : FaceCell) → bare_face (g c) ≡ bare_face c
 
 -- both were written
 pub writes_both : {old mid between new : Stored} (f : ℕ) (to : Option Slot) (len : ℕ) → beside_rounds mid ≡ beside_rounds old → between ≡ change_face (with_face_loop to) mid f
@@ -87,11 +86,9 @@ module _ {old mid new : Stored} {f : ℕ} {g : FaceCell → FaceCell} (w : Write
   -- all but the links around faces, and that first loop and length
   round_beside : beside_round new f ≡ beside_round old f
   round_beside =
-      ap beside_rounds (face_twice (with_face_loop None) (with_face_len 0) new f)
-      ∙ ap (λ (t : Stored). beside_rounds (change_face bare t f)) w.write
-      ∙ ap (λ (cs : List (Option FaceCell)). beside_rounds (record mid { faces = record { cells = cs; names = mid.faces.names } })) (changed_over g bare w.covered mid.faces.cells f)
-      ∙ ap (λ (t : Stored). change_face bare t f) w.rest
-      ∙ sym (ap beside_rounds (face_twice (with_face_loop None) (with_face_len 0) old f))
+      ap (λ (t : Stored). beside_round t f) w.write
+      ∙ ap (λ (cs : List (Option FaceCell)). beside_rounds (record mid { faces = record { cells = cs; names = mid.faces.names } })) (changed_over g bare_face w.covered mid.faces.cells f)
+      ∙ ap (λ (t : Stored). change_face bare_face t f) w.rest
 
   -- what h tells of a loop beside its links around its face
   loop_told : {Z : Type 0} (h : Option LoopCell → Z) → ((c : LoopCell) → h (Some c) ≡ h (Some (without_round c))) → (s : ℕ) → h (at new.loops s) ≡ h (at old.loops s)
@@ -122,7 +119,7 @@ module _ {old mid new : Stored} {f : ℕ} {g : FaceCell → FaceCell} (w : Write
   face_told h = ap (λ (cs : List (Option FaceCell)). h (at cs f)) faces_now ∙ ap h (changed_here g old.faces.cells f)
 
   -- the loop cycle of the face reads as the list `now`
-  pub round_changes : (first : Option Round) (touched now : List Round) → first_in (option_map g (at old.faces.cells f)) ≡ first
+  pub round_changes : (first : Option Round) (touched now : List Round) → face_loop_in (option_map g (at old.faces.cells f)) ≡ first
       → ReadsAs (round_links mid) first now → SameOutside (round_links old) (round_links mid) touched
       → ((l : Round) → HasMember touched l → face_of old l.0 ≡ Some f) → ((l : Round) → HasMember now l → face_of old l.0 ≡ Some f)
       → Changes (round_kind old) (round_kind new) f touched now
@@ -131,8 +128,8 @@ module _ {old mid new : Stored} {f : ℕ} {g : FaceCell → FaceCell} (w : Write
       let P = λ (m : LinkMap Round). ReadsAs m first now in
       let Q = λ (m : LinkMap Round). SameOutside (round_links old) m touched in
       record {
-        reads = reads_at (subst P (sym links) r) (sym (face_told first_in ∙ is));
-        firsts = λ p ne. ap (λ (cs : List (Option FaceCell)). first_in (at cs p)) faces_now ∙ ap first_in (changed_elsewhere g old.faces.cells f p ne);
+        reads = reads_at (subst P (sym links) r) (sym (face_told face_loop_in ∙ is));
+        firsts = λ p ne. ap (λ (cs : List (Option FaceCell)). face_loop_in (at cs p)) faces_now ∙ ap face_loop_in (changed_elsewhere g old.faces.cells f p ne);
         owners = λ l. loop_told (option_map (λ (c : LoopCell). c.face.0)) (λ c. refl) l.0.0;
         outside = subst Q (sym links) outside;
         near = near;
@@ -150,13 +147,15 @@ module _ {old mid new : Stored} {f : ℕ} {g : FaceCell → FaceCell} (w : Write
 
   -- what follows of all cycles
   pub round_edited : {touched now : List Round} (was len : ℕ) → AreCycles old → Changes (round_kind old) (round_kind new) f touched now
-      → len_of old f ≡ Some was → ((c : FaceCell) → (g c).len ≡ len) → len ≡ length now → RoundEdited old new f now
+      → len_of old f ≡ Some was → ((c : FaceCell) → (g c).len ≡ len) → len ≡ length now → RoundEdited old new f touched now
   round_edited was len h c counted is fits =
       let rounds = rounds_hold old h in
       let own = own_cycle same_round round_test c in
       record {
         own = own;
+        links = c.outside;
         len = len_now was len counted is ∙ ap (λ (n : ℕ). Some n) (fits ∙ sym (ap (λ (ls : List Round). length ls) own));
+        disks = λ v. ap (λ (k : Kind Dart). cycle_at same_dart k v) disks_stay;
         radials = λ e. ap (λ (k : Kind Radial). cycle_at same_radial k e) radials_stay;
         others = other_cycles same_round round_test rounds c;
         rest = round_beside;

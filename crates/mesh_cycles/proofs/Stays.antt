@@ -1,12 +1,12 @@
 -- A store changes, and no cycle does: each begins with the same member, and the cells that it goes through stay.
-use Rattle.std.proofs.Common.{◌≡◌, ◌&&◌, ℕ, Bool, nat_lt, is_some, IsTrue, List, [], Option, Some, None, refl, sym, ap, ◌∙◌, inl}
+use Rattle.std.proofs.Common.{◌≡◌, ◌&&◌, ℕ, Bool, nat_lt, is_some, List, [], Option, Some, None, refl, sym, ap, ◌∙◌, inl}
 use Rattle.std.specs.Option.{option_map, option_map_or, option_and_then}
 use Rattle.raw_pool.specs.declared.pool.Slot.{Slot}
 use Rattle.link_ring.specs.Members.{HasMember}
 use Rattle.link_ring.specs.Ring.{LinkMap, ReadsAs}
 use Rattle.link_ring.proofs.Members.{member_of}
 use Rattle.link_ring.proofs.Paths.{IsIdentityTest, IsLimit}
-use Rattle.link_ring.proofs.Reading.{first_begins, member_in_ring, reads_at, reads_along}
+use Rattle.link_ring.proofs.Reading.{first_begins, reads_at, reads_along}
 use Rattle.link_ring.proofs.Rings.{SameOn, ring_same}
 use Rattle.mesh_store.specs.Limits.{darts_limited, radials_limited, rounds_limited}
 use Rattle.mesh_store.specs.Slots.{at}
@@ -19,11 +19,12 @@ use Rattle.mesh_store.specs.declared.cells.EdgeCell.{EdgeCell}
 use Rattle.mesh_store.specs.declared.cells.LoopCell.{LoopCell}
 use Rattle.mesh_cycles.specs.Owners.{end_on, side_at, dart_at, first_dart, first_radial, first_round}
 use Rattle.mesh_cycles.specs.Lists.{same_dart, same_radial, same_round}
-use Rattle.mesh_cycles.specs.Cycles.{AreCycles, disk_of, radial_of, round_of}
+use Rattle.mesh_cycles.specs.Cycles.{AreCycles, disk_of, radial_of, round_of, EndsDiffer}
 use Rattle.mesh_cycles.specs.Edits.{SameDisks, SameRadials, SameRounds}
 use Rattle.mesh_cycles.proofs.RingLists.{list_read}
 use Rattle.mesh_cycles.proofs.CycleKinds.{Kind, Holds, cycle_at}
-use Rattle.mesh_cycles.proofs.Frames.{EndsDiffer, dart_test, radial_test, round_test, disk_kind, radial_kind, round_kind, disks_hold, radials_hold, rounds_hold, are_cycles}
+use Rattle.mesh_cycles.proofs.Cells.{kept}
+use Rattle.mesh_cycles.proofs.Frames.{dart_test, radial_test, round_test, disk_kind, radial_kind, round_kind, disks_hold, radials_hold, rounds_hold, are_cycles}
 
 -- ---- one kind of cycles
 
@@ -54,10 +55,6 @@ module _ {K : Type 0} (same : K → K → Bool) (t : IsIdentityTest same) where
 pub first_member : {K : Type 0} {m : LinkMap K} {first : Option K} {zs : List K} (k : K) → ReadsAs m first zs → first ≡ Some k → HasMember zs k
 first_member k r e = let s = first_begins (reads_at r e) in member_of k (inl refl) (sym s.1)
 
--- a member of a cycle is a key
-pub member_key : {K : Type 0} {m : LinkMap K} {first : Option K} {zs : List K} (k : K) → ReadsAs m first zs → HasMember zs k → IsTrue (m.has k)
-member_key k r h = (member_in_ring k r h).1.keys.0
-
 -- an empty cycle has no first member
 pub empty_first : {K : Type 0} {m : LinkMap K} {first : Option K} {zs : List K} → ReadsAs m first zs → zs ≡ [] → first ≡ None
 empty_first r e = (reads_along r e).start
@@ -78,11 +75,7 @@ round_part c = record (without_radial c) { vert = no_slot; edge = no_slot }
 
 -- what g tells of a part is what it tells of the whole
 told_of_part : {X Z : Type 0} (f : X → X) (g : Option X → Z) → ((x : X) → g (Some x) ≡ g (Some (f x))) → (o p : Option X) → option_map f o ≡ option_map f p → g o ≡ g p
-told_of_part {X} {Z} f g same o p e = of_part o ∙ ap g e ∙ sym (of_part p)
-  where
-    of_part : (q : Option X) → g q ≡ g (option_map f q)
-    of_part None = refl
-    of_part (Some x) = same x
+told_of_part f g same o p e = kept f g same o ∙ ap g e ∙ sym (kept f g same p)
 
 -- each cycle begins with the same member, what it goes by stays at each member, and the two ends of an edge differ
 pub record Stays (old new : Stored) : Type 0 where

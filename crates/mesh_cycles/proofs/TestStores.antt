@@ -4,6 +4,7 @@ use Rattle.std.specs.Prelude.{slice_set}
 use Rattle.std.specs.Option.{option_map}
 use Rattle.std.proofs.lemmas.Bool.{cases_eq, false≢true}
 use Rattle.std.proofs.lemmas.List.{length-set}
+use Rattle.std.proofs.lemmas.Option.{same_Some}
 use Rattle.raw_pool.specs.declared.pool.Slot.{Slot}
 use Rattle.raw_pool.specs.Slots.{holds, spare_count, IsLive}
 use Rattle.link_ring.specs.Members.{HasMember}
@@ -13,19 +14,20 @@ use Rattle.link_ring.proofs.Reading.{first_begins, last_before_first, reads_at}
 use Rattle.link_ring.proofs.Rings.{next_member, ring_along}
 use Rattle.mesh_store.specs.Limits.{is_dart}
 use Rattle.mesh_store.specs.Slots.{at}
-use Rattle.mesh_store.specs.Stored.{Stored, dart_links, round_links, new_vert, new_edge, new_loop, new_face}
+use Rattle.mesh_store.specs.Stored.{Stored, dart_links, round_links, new_vert, new_edge, new_loop, new_face, with_face_len, change_face}
 use Rattle.mesh_store.specs.Room.{WidensStore, HasRoom}
 use Rattle.mesh_store.specs.declared.cells.Dart.{Dart}
 use Rattle.mesh_store.specs.declared.cells.EdgeCell.{EdgeCell}
 use Rattle.mesh_store.specs.declared.cells.Round.{Round}
 use Rattle.mesh_store.specs.declared.cells.FaceCell.{FaceCell}
-use Rattle.mesh_store.proofs.Places.{unwritten, some_differ}
+use Rattle.mesh_store.proofs.Places.{unwritten}
 use Rattle.mesh_cycles.specs.Owners.{end_on, dart_end, len_of, first_round}
-use Rattle.mesh_cycles.specs.Cycles.{AreCycles, disk_of, round_of, IsInNoDisk}
+use Rattle.mesh_cycles.specs.Cycles.{AreCycles, disk_of, round_of, IsInNoDisk, IsCounted}
 use Rattle.mesh_cycles.specs.Edits.{SameDisks, SameDisksBut, SameRounds, SameRoundsBut, beside_disk, beside_radial, beside_round}
 use Rattle.mesh_cycles.specs.TestStores.{AreCounted, IsSample, StaysSample, AreWhole, AreWholeBut}
 use Rattle.mesh_cycles.proofs.Cells.{live_cell}
-use Rattle.mesh_cycles.proofs.Elements.{vert_added, edge_added, AddsEdge, loop_added, face_added, empty_cycles, at_grown, room_made}
+use Rattle.mesh_cycles.proofs.Elements.{vert_added, edge_added, AddsEdge, loop_added, face_added, face_len_written, empty_cycles, at_grown, room_made}
+use Rattle.mesh_cycles.proofs.Counts.{len_beside}
 use Rattle.mesh_cycles.proofs.Besides.{still_room, disk_pools, disk_darts, disk_ends, disk_lens, radial_pools, radial_lens, round_pools, round_lens}
 
 -- ---- lengths
@@ -34,15 +36,19 @@ use Rattle.mesh_cycles.proofs.Besides.{still_room, disk_pools, disk_darts, disk_
 counted_same : (old new : Stored) → ((f : ℕ) → len_of new f ≡ len_of old f) → SameRounds old new → AreCounted old → AreCounted new
 counted_same old new lens rounds c f n is = c f n (sym (lens f) ∙ is) ∙ ap length (sym (rounds f))
 
--- and where one face's is right, and the others are as before
-counted_but : (old new : Stored) (f : ℕ) → ((g : ℕ) → g ≢ f → len_of new g ≡ len_of old g) → SameRoundsBut f old new → len_of new f ≡ Some (length (round_of new f)) → AreCounted old → AreCounted new
+-- they are right but for one face's
+abbrev AreCountedBut : ℕ → Stored → Type 0
+AreCountedBut f st = (g n : ℕ) → g ≢ f → len_of st g ≡ Some n → n ≡ length (round_of st g)
+
+-- where that one is put right, and the others are as before, all are right
+counted_but : (old new : Stored) (f : ℕ) → ((g : ℕ) → g ≢ f → len_of new g ≡ len_of old g) → SameRoundsBut f old new → IsCounted new f → AreCountedBut f old → AreCounted new
 counted_but old new f lens rounds here c g n is = elim (cases_eq g f) [
-  | inl e ↦ (let P = λ (k : ℕ). len_of new k ≡ Some (length (round_of new k)) in some_differ (sym is ∙ subst P (sym e) here))
-  | inr ne ↦ c g n (sym (lens g ne) ∙ is) ∙ ap length (sym (rounds g ne))
+  | inl e ↦ (let P = IsCounted new in same_Some _ _ (sym is ∙ subst P (sym e) here))
+  | inr ne ↦ c g n ne (sym (lens g ne) ∙ is) ∙ ap length (sym (rounds g ne))
 ]
 
 -- the length of a live face is the number of its loops
-pub live_len : (st : Stored) (f : ℕ) → AreCounted st → IsLive st.faces.cells f → len_of st f ≡ Some (length (round_of st f))
+pub live_len : (st : Stored) (f : ℕ) → AreCounted st → IsLive st.faces.cells f → IsCounted st f
 live_len st f c live =
     let cell = live_cell st.faces.cells f live in
     let is : len_of st f ≡ Some cell.0.len = ap (option_map (λ (x : FaceCell). x.len)) cell.1 in
@@ -94,12 +100,35 @@ sample_radial old new e rest rounds cycles left reach s = record {
   room = still_room (radial_pools old new e rest) s.room;
 }
 
-pub sample_round : (old new : Stored) (f : ℕ) → beside_round new f ≡ beside_round old f → SameRoundsBut f old new → len_of new f ≡ Some (length (round_of new f)) → AreCycles new → StaysSample old new
-sample_round old new f rest rounds len cycles left reach s = record {
+-- the store of a test, but for the length of one face
+pub record IsSampleBut (f : ℕ) (st : Stored) (left reach : ℕ) : Type 0 where
+  pub cycles : AreCycles st
+  pub counted : AreCountedBut f st
+  pub room : HasRoom st left left left left (reach ∷ reach ∷ reach ∷ [])
+
+-- any length is written
+pub misstated : (old new : Stored) (f : Slot) (to left reach : ℕ) → new ≡ change_face (with_face_len to) old f.0 → IsSample old left reach → IsSampleBut f.0 new left reach
+misstated old new f to left reach is s =
+    let same = face_len_written old new f s.cycles to is in
+    let rest = len_beside old new f.0 to is in
+    record {
+      cycles = same.cycles;
+      counted = λ g n ne e. s.counted g n (sym (round_lens old new f.0 rest g ne) ∙ e) ∙ ap length (sym (same.rounds g));
+      room = still_room (round_pools old new f.0 rest) s.room;
+    }
+
+-- a change of the face's cycle puts it right
+pub sample_mended : (old new : Stored) (f : ℕ) → beside_round new f ≡ beside_round old f → SameRoundsBut f old new → IsCounted new f → AreCycles new → (left reach : ℕ)
+    → IsSampleBut f old left reach → IsSample new left reach
+sample_mended old new f rest rounds len cycles left reach s = record {
   cycles = cycles;
   counted = counted_but old new f (round_lens old new f rest) rounds len s.counted;
   room = still_room (round_pools old new f rest) s.room;
 }
+
+pub sample_round : (old new : Stored) (f : ℕ) → beside_round new f ≡ beside_round old f → SameRoundsBut f old new → IsCounted new f → AreCycles new → StaysSample old new
+sample_round old new f rest rounds len cycles left reach s =
+    sample_mended old new f rest rounds len cycles left reach (record { cycles = s.cycles; counted = λ g n ne e. s.counted g n e; room = s.room })
 
 -- ---- an element is added
 
@@ -201,7 +230,7 @@ module _ (old new : Stored) (s : Slot) (left reach : ℕ) (h : IsSample old left
         cycles = a.same.cycles;
         counted = counted_but old new s.0
             (λ g ne. ap len (ap (λ (t : Stored). at t.faces.cells g) adds ∙ unwritten old.faces.cells s.0 g (Some (new_face name)) ne))
-            (λ g ne. a.same.rounds g) (ap len a.there ∙ ap (λ (ls : List Round). Some (length ls)) (sym a.empty)) h.counted;
+            (λ g ne. a.same.rounds g) (ap len a.there ∙ ap (λ (ls : List Round). Some (length ls)) (sym a.empty)) (λ g n ne e. h.counted g n e);
         room = room_less old new left reach some (record {
           verts = as_many (ap (λ (t : Stored). t.verts.cells) adds);
           edges = as_many (ap (λ (t : Stored). t.edges.cells) adds);
@@ -281,13 +310,13 @@ module _ (old mid new : Stored) (from to : ℕ) (edge : Slot) (p : PutsDart old 
   own_dart : (v : ℕ) (d : Dart) (side : ℕ) → d.edge.0 ≡ edge.0 → d.side ≡ side → side < 2 → dart_end old d ≡ Some v → HasMember (disk_of new v) d
   own_dart v d zero e s low is =
       let same : d ≡ dart_on edge 0 = λ i. record { edge = record { 0 = e i }; side = s i } in
-      let at_v : v ≡ from = some_differ (sym is ∙ ap (dart_end old) same ∙ start) in
+      let at_v : v ≡ from = same_Some _ _ (sym is ∙ ap (dart_end old) same ∙ start) in
       let P = λ (k : ℕ). HasMember (disk_of mid k) d in
       let Q = λ (x : Dart). HasMember (disk_of mid from) x in
       second_member v d (subst P (sym at_v) (subst Q (sym same) (grown_last old mid from (dart_on edge 0) p.own p.others)))
   own_dart v d (suc zero) e s low is =
       let same : d ≡ dart_on edge 1 = λ i. record { edge = record { 0 = e i }; side = s i } in
-      let at_v : v ≡ to = some_differ (sym is ∙ ap (dart_end old) same ∙ end) in
+      let at_v : v ≡ to = same_Some _ _ (sym is ∙ ap (dart_end old) same ∙ end) in
       let P = λ (k : ℕ). HasMember (disk_of new k) d in
       let Q = λ (x : Dart). HasMember (disk_of new to) x in
       subst P (sym at_v) (subst Q (sym same) (grown_last mid new to (dart_on edge 1) q.own q.others))

@@ -8,12 +8,8 @@ use Rattle.mesh_store.specs.Stored.{Stored}
 use Rattle.mesh_cycles.specs.declared.along_edge.LoopsOfEdge.{LoopsOfEdge}
 use Rattle.mesh_cycles.specs.declared.around_vert.LoopsOfVert.{LoopsOfVert}
 use Rattle.mesh_cycles.specs.Cycles.{AreCycles}
-use Rattle.mesh_cycles.specs.Found.{stands_at, turns_at, loops_along, loops_around}
+use Rattle.mesh_cycles.specs.Found.{AllLive, stands_at, is_corner_at, loops_along, loops_around}
 use Rattle.mesh_cycles.specs.Left.{edges_around_left, CanGiveEdgesAround, loops_along_left, CanGiveLoopsAlong}
-
--- each slot of the list is live
-abbrev pub AllLive : {X : Type 0} → List (Option X) → List Slot → Type 0
-AllLive cells xs = (s : Slot) → HasMember xs s → IsLive cells s.0
 
 -- of the loops along an edge that are still to come, those that stand at a vertex
 abbrev pub standing_left : Stored → ℕ → LoopsOfEdge → List Slot
@@ -34,5 +30,5 @@ pub record CanGiveLoopsAround (s : LoopsOfVert) : Type 0 where
   pub live_loops : AllLive s.st.now.loops (loops_along_left s.loops)
 
 -- the loops around a vertex are those that stand at it and whose edge ends at it
-abbrev pub AreTurnsAt : Stored → ℕ → Type 0
-AreTurnsAt st v = (l : Slot) → HasMember (loops_around st v) l ↔ (turns_at st v l ≡ true)
+abbrev pub AreCornersAt : Stored → ℕ → Type 0
+AreCornersAt st v = (l : Slot) → HasMember (loops_around st v) l ↔ (is_corner_at st v l ≡ true)

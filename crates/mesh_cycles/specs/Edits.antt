@@ -2,6 +2,7 @@
 use Rattle.std.specs.Prelude.{◌≡◌, ◌≢◌, ℕ}
 use Rattle.std.specs.declared.option.Option.TheVariants.{None}
 use Rattle.mesh_store.specs.Stored.{Stored, with_first_edge, with_first_loop, with_face_loop, with_face_len, change_vert, change_edge, change_face, beside_darts, beside_radials, beside_rounds}
+use Rattle.mesh_store.specs.declared.cells.FaceCell.{FaceCell}
 use Rattle.mesh_cycles.specs.Cycles.{disk_of, radial_of, round_of}
 
 -- every disk cycle has its members, but for one vertex's
@@ -36,6 +37,10 @@ beside_disk st v = beside_darts (change_vert (with_first_edge None) st v)
 abbrev pub beside_radial : Stored → ℕ → Stored
 beside_radial st e = beside_radials (change_edge (with_first_loop None) st e)
 
+-- the face without its first loop and its length
+abbrev pub bare_face : FaceCell → FaceCell
+bare_face c = with_face_len 0 (with_face_loop None c)
+
 -- everything but the links around faces, and the first loop and the length of a face
 abbrev pub beside_round : Stored → ℕ → Stored
-beside_round st f = beside_rounds (change_face (with_face_len 0) (change_face (with_face_loop None) st f) f)
+beside_round st f = beside_rounds (change_face bare_face st f)

@@ -9,6 +9,7 @@ use Rattle.mesh_store.specs.declared.cells.Dart.{Dart}
 use Rattle.mesh_store.specs.declared.cells.Radial.{Radial}
 use Rattle.mesh_store.specs.declared.cells.Round.{Round}
 use Rattle.mesh_cycles.specs.Lists.{same_dart, same_radial, same_round}
+use Rattle.mesh_cycles.specs.Cycles.{dart_limit, loop_limit}
 use Rattle.mesh_cycles.specs.declared.cycle_iter.CycleIter.{CycleIter}
 use Rattle.mesh_cycles.specs.declared.along_edge.LoopsOfEdge.{LoopsOfEdge}
 use Rattle.mesh_cycles.specs.declared.around_vert.EdgesOfVert.{EdgesOfVert}
@@ -25,14 +26,6 @@ members_left eq links limit s = option_map_or (items_left eq links limit) s.walk
 -- it may be asked for the next
 abbrev pub CanGoOn : {K L : Type 0} → (K → K → Bool) → (L → LinkMap K) → (L → ℕ) → CycleIter K L → Type 0
 CanGoOn eq links limit s = IfSome s.walk (CanWalk eq links limit)
-
--- there are at most so many darts
-abbrev pub dart_limit : Stored → ℕ
-dart_limit st = 2 * length st.edges.cells
-
--- there are at most so many loops
-abbrev pub loop_limit : Stored → ℕ
-loop_limit st = length st.loops
 
 -- the edges that are still to come
 abbrev pub edges_around_left : EdgesOfVert → List Slot

@@ -9,6 +9,10 @@ use Rattle.mesh_store.specs.declared.cells.VertCell.{VertCell}
 use Rattle.mesh_store.specs.declared.cells.EdgeCell.{EdgeCell}
 use Rattle.mesh_store.specs.declared.cells.LoopCell.{LoopCell}
 use Rattle.mesh_store.specs.declared.cells.FaceCell.{FaceCell}
+use Rattle.mesh_store.specs.declared.cells.Radial.{Radial}
+use Rattle.mesh_cycles.specs.Owners.{dart_end, edge_of, face_of}
+use Rattle.mesh_cycles.specs.Lists.{same_radial, without, with_behind}
+use Rattle.mesh_cycles.specs.Cycles.{IsCounted}
 use Rattle.mesh_cycles.specs.Found.{edges_around, loops_along, loops_in, loops_around, faces_along, faces_around, by_name, joins}
 
 -- a slot
@@ -71,6 +75,14 @@ small = record {
   };
 }
 
+-- ---- what it stands for
+
+-- an edge ends where its darts do, a loop names its edge and its face, and what isn't there has none; lengths are right
+abbrev pub SmallOwners : Type 0
+SmallOwners =
+    (dart_end small (dart 1 1) ≡ Some 2) × (dart_end small (dart 2 0) ≡ None) × (edge_of small (slot 3) ≡ Some 1) × (face_of small (slot 3) ≡ Some 2) × (face_of small (slot 4) ≡ None)
+    × IsCounted small 0 × IsCounted small 2
+
 -- two edges are around vertex 0, and one around each other vertex
 abbrev pub SmallEdges : Type 0
 SmallEdges = map (edges_around small) (0 ∷ 1 ∷ 2 ∷ 3 ∷ []) ≡ slots (0 ∷ 1 ∷ []) ∷ slots (0 ∷ []) ∷ slots (1 ∷ []) ∷ [] ∷ []
@@ -95,6 +107,23 @@ SmallFaces = map (faces_along small) (0 ∷ 1 ∷ []) ≡ slots (0 ∷ 1 ∷ [])
 abbrev pub SmallAround : Type 0
 SmallAround = map (faces_around small) (0 ∷ 1 ∷ 2 ∷ []) ≡ slots (0 ∷ 2 ∷ []) ∷ slots (0 ∷ 1 ∷ []) ∷ [] ∷ []
 
+-- the small store before the loops of face 0 are in its own cycle
+abbrev pub half_built : Stored
+half_built = record small {
+  faces = record {
+    cells = Some (record { number = 0; first_loop = None; len = 0 }) ∷ face 1 2 1 ∷ face 2 3 1 ∷ [];
+    names = Some (slot 0) ∷ Some (slot 1) ∷ Some (slot 2) ∷ [];
+  };
+}
+
+-- face 0 comes there all the same
+abbrev pub HalfBuiltFaces : Type 0
+HalfBuiltFaces = map (faces_along half_built) (0 ∷ 1 ∷ []) ≡ slots (0 ∷ 1 ∷ []) ∷ slots (2 ∷ []) ∷ []
+
+-- and around its vertices
+abbrev pub HalfBuiltAround : Type 0
+HalfBuiltAround = map (faces_around half_built) (0 ∷ 1 ∷ 2 ∷ []) ≡ slots (0 ∷ 2 ∷ []) ∷ slots (0 ∷ 1 ∷ []) ∷ [] ∷ []
+
 -- vertex 2 has the least name, and edge 1 the lesser
 abbrev pub SmallNames : Type 0
 SmallNames = (by_name small.verts.names ≡ slots (2 ∷ 1 ∷ 0 ∷ [])) × (by_name small.edges.names ≡ slots (1 ∷ 0 ∷ []))
@@ -104,3 +133,17 @@ abbrev pub SmallJoins : Type 0
 SmallJoins =
     (joins small 0 1 (slot 0) ≡ true) × (joins small 1 0 (slot 0) ≡ true) × (joins small 0 2 (slot 0) ≡ false) × (joins small 1 1 (slot 0) ≡ false)
     × (joins small 0 1 (slot 2) ≡ false)
+
+-- ---- lists
+
+-- loops by their places around edges
+abbrev radials : List ℕ → List Radial
+radials ns = map (λ n. record { 0 = slot n }) ns
+
+-- a member less, the first too
+abbrev pub OneLess : Type 0
+OneLess = map (λ n. without same_radial (record { 0 = slot n }) (radials (0 ∷ 1 ∷ 2 ∷ []))) (0 ∷ 1 ∷ 3 ∷ []) ≡ radials (1 ∷ 2 ∷ []) ∷ radials (0 ∷ 2 ∷ []) ∷ radials (0 ∷ 1 ∷ 2 ∷ []) ∷ []
+
+-- a member more behind each of two
+abbrev pub OneMore : Type 0
+OneMore = map (λ n. with_behind same_radial (record { 0 = slot n }) (record { 0 = slot 7 }) (radials (0 ∷ 1 ∷ []))) (0 ∷ 1 ∷ []) ≡ radials (0 ∷ 7 ∷ 1 ∷ []) ∷ radials (0 ∷ 1 ∷ 7 ∷ []) ∷ []

@@ -6,8 +6,7 @@ use Rattle.mesh_store.specs.Stored.{Stored, dart_links}
 use Rattle.mesh_store.specs.Room.{HasRoom}
 use Rattle.mesh_store.specs.declared.cells.Dart.{Dart}
 use Rattle.mesh_cycles.specs.Owners.{dart_end, len_of}
-use Rattle.mesh_cycles.specs.Cycles.{AreCycles, disk_of, round_of}
-use Rattle.mesh_cycles.specs.Found.{HasWholeDisk}
+use Rattle.mesh_cycles.specs.Cycles.{AreCycles, HasWholeDisk, disk_of, round_of}
 
 -- the stored length of each face is the number of its loops
 abbrev pub AreCounted : Stored → Type 0

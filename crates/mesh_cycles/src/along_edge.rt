@@ -3,14 +3,15 @@ ghost use Rattle.std.specs.Prelude.{◌≡◌, []};
 ghost use Rattle.std.specs.List.{find};
 ghost use Rattle.std.specs.Iterator.{YieldsFirst, item_count};
 ghost use Rattle.raw_pool.specs.Slots.{IsLive};
-ghost use Rattle.link_ring.specs.Members.{AllDistinct};
-ghost use Rattle.mesh_cycles.specs.Cycles.{AreCycles, AreComplete};
-ghost use Rattle.mesh_cycles.specs.Found.{loops_along, loops_in, faces_along, goes_along, leads_face};
+ghost use Rattle.link_ring.specs.Members.{HasMember, AllDistinct};
+ghost use Rattle.mesh_cycles.specs.Cycles.{AreCycles};
+ghost use Rattle.mesh_cycles.specs.Found.{AllLive, loops_along, loops_in, faces_along, goes_along, leads};
 ghost use Rattle.mesh_cycles.specs.Left.{loops_along_left, CanGiveLoopsAlong};
-ghost use Rattle.mesh_cycles.specs.Faces.{faces_along_left, CanGiveFacesAlong, HasFacesAlong};
+ghost use Rattle.mesh_cycles.specs.Faces.{faces_along_left, CanGiveFacesAlong, AreFacesAlong};
 
 use crate::cycle_iter::{CycleIter, members_of};
 use crate::in_face::corners_of_face;
+use crate::leader::own_or_first;
 use crate::radial::first_radial;
 use mesh_store::{Radial, Slot, Store};
 use std::iter::FusedIterator;
@@ -41,12 +42,13 @@ impl<'a> Iterator for LoopsOfEdge<'a> {
 
 impl<'a> FusedIterator for LoopsOfEdge<'a> {}
 
-/// The loops along a live edge, each once, in any order. Constant time.
+/// The loops along a live edge, along its radial cycle from its first loop on, each once. Constant time.
 pub fn loops_of_edge(st: &Store, e: Slot) -> LoopsOfEdge<'_>
     requires cycles { AreCycles st.now }
     requires live { IsLive st.now.edges.cells e.0 }
     ensures items { loops_along_left result ≡ loops_along st.now e.0 }
     ensures once { AllDistinct (loops_along st.now e.0) }
+    ensures live { AllLive st.now.loops (loops_along st.now e.0) }
     ensures ready { CanGiveLoopsAlong result }
 {
     LoopsOfEdge {
@@ -67,7 +69,8 @@ pub(crate) fn no_loops(st: &Store) -> LoopsOfEdge<'_>
 /// An iterator over the faces along an edge, which [`faces_of_edge`] makes.
 ///
 /// After the last face it answers `None` for ever. An item takes time that grows with the loops passed over and the corners of
-/// their faces.
+/// their faces. A loop that isn't its face's only one along the edge, or isn't in the face's own cycle, takes one more walk
+/// along the edge.
 #[derive(Drop)]
 #[must_use]
 pub struct FacesOfEdge<'a> {
@@ -98,16 +101,16 @@ impl<'a> Iterator for FacesOfEdge<'a> {
 
 impl<'a> FusedIterator for FacesOfEdge<'a> {}
 
-/// The faces with a loop along a live edge, each once, in any order. Constant time.
+/// The live faces of the loops along a live edge, each once. Constant time.
 ///
-/// A face comes with the first of its loops along the edge. Where every loop is in the cycles of its edge and its face, no face
-/// is left out (`all`).
+/// A face comes with the first loop of its own cycle along the edge, if the edge's cycle has that, and else with the first loop
+/// of the edge's cycle that names it. So none is left out (`all`), not even one whose own cycle is half built.
 pub fn faces_of_edge(st: &Store, e: Slot) -> FacesOfEdge<'_>
     requires cycles { AreCycles st.now }
     requires live { IsLive st.now.edges.cells e.0 }
     ensures items { faces_along_left result ≡ faces_along st.now e.0 }
     ensures once { AllDistinct (faces_along st.now e.0) }
-    ensures all { AreComplete st.now → HasFacesAlong st.now e.0 }
+    ensures all { AreFacesAlong st.now e.0 }
     ensures ready { CanGiveFacesAlong result }
 {
     FacesOfEdge {
@@ -117,17 +120,22 @@ pub fn faces_of_edge(st: &Store, e: Slot) -> FacesOfEdge<'_>
     }
 }
 
-// Whether a live loop is the first of its face along an edge.
+// Whether a face comes with this loop of it along a live edge.
 fn leads_along(st: &Store, e: Slot, l: Slot) -> bool
     requires cycles { AreCycles st.now }
-    requires live { IsLive st.now.loops l.0 }
-    ensures { result ≡ leads_face st.now (goes_along st.now e.0) l }
+    requires live { IsLive st.now.edges.cells e.0 }
+    requires member { HasMember (loops_along st.now e.0) l }
+    ensures { result ≡ leads st.now (goes_along st.now e.0) (loops_along st.now e.0) l }
 {
     let f = st.loop_face(l);
-    st.has_face(f) && first_along(st, f, e) == Some(l)
+    if !st.has_face(f) {
+        return false;
+    }
+    let own = first_along(st, f, e);
+    own == Some(l) || own_or_first(st, own, loops_of_edge(st, e), f) == Some(l)
 }
 
-// The first loop of a live face along an edge.
+// The first loop of a live face's own cycle along an edge.
 fn first_along(st: &Store, f: Slot, e: Slot) -> Option<Slot>
     requires cycles { AreCycles st.now }
     requires live { IsLive st.now.faces.cells f.0 }

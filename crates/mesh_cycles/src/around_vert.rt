@@ -3,17 +3,18 @@ ghost use Rattle.std.specs.Prelude.{◌≡◌};
 ghost use Rattle.std.specs.List.{find};
 ghost use Rattle.std.specs.Iterator.{YieldsFirst, item_count};
 ghost use Rattle.raw_pool.specs.Slots.{IsLive};
-ghost use Rattle.link_ring.specs.Members.{AllDistinct};
+ghost use Rattle.link_ring.specs.Members.{HasMember, AllDistinct};
 ghost use Rattle.mesh_cycles.specs.Cycles.{AreCycles, AreComplete};
-ghost use Rattle.mesh_cycles.specs.Found.{edges_around, loops_around, loops_in, faces_around, ends_at, turns_at, leads_face};
+ghost use Rattle.mesh_cycles.specs.Found.{AllLive, edges_around, loops_around, loops_in, faces_around, ends_at, is_corner_at, leads};
 ghost use Rattle.mesh_cycles.specs.Left.{edges_around_left, CanGiveEdgesAround, loops_along_left, CanGiveLoopsAlong};
-ghost use Rattle.mesh_cycles.specs.Around.{loops_around_left, CanGiveLoopsAround, AllLive, standing_left, AreTurnsAt};
-ghost use Rattle.mesh_cycles.specs.Faces.{faces_around_left, CanGiveFacesAround, HasFacesAround};
+ghost use Rattle.mesh_cycles.specs.Around.{loops_around_left, CanGiveLoopsAround, standing_left, AreCornersAt};
+ghost use Rattle.mesh_cycles.specs.Faces.{faces_around_left, CanGiveFacesAround, AreFacesAround};
 
 use crate::along_edge::{LoopsOfEdge, loops_of_edge, no_loops};
 use crate::cycle_iter::{CycleIter, members_of};
 use crate::disk::first_dart;
 use crate::in_face::corners_of_face;
+use crate::leader::own_or_first;
 use mesh_store::{Dart, Slot, Store};
 use std::iter::FusedIterator;
 
@@ -49,6 +50,7 @@ pub fn edges_of_vert(st: &Store, v: Slot) -> EdgesOfVert<'_>
     requires live { IsLive st.now.verts.cells v.0 }
     ensures items { edges_around_left result ≡ edges_around st.now v.0 }
     ensures once { AllDistinct (edges_around st.now v.0) }
+    ensures live { AllLive st.now.edges.cells (edges_around st.now v.0) }
     ensures ready { CanGiveEdgesAround result }
 {
     EdgesOfVert {
@@ -58,7 +60,7 @@ pub fn edges_of_vert(st: &Store, v: Slot) -> EdgesOfVert<'_>
 
 /// An iterator over the loops of the edges around a vertex that stand at it, which [`loops_of_vert`] makes.
 ///
-/// After the last loop it answers `None` for ever. All items together take time that grows with the loops of these edges.
+/// After the last loop it answers `None` for ever. All items together take time that grows with the edges and their loops.
 #[derive(Drop)]
 #[must_use]
 pub struct LoopsOfVert<'a> {
@@ -92,16 +94,17 @@ impl<'a> Iterator for LoopsOfVert<'a> {
 
 impl<'a> FusedIterator for LoopsOfVert<'a> {}
 
-/// The loops that stand at a live vertex, of all edges around it, each once, in any order. Constant time.
+/// The loops that stand at a live vertex, of one edge around it after the other, each once. Constant time.
 ///
-/// Where every dart and every loop is in its cycles, these are all the live loops that stand there and whose edge ends there
-/// (`all`).
+/// Where every dart is in the cycle of its end and every loop in that of its edge, these are all the live loops that stand there
+/// and whose edge ends there (`all`).
 pub fn loops_of_vert(st: &Store, v: Slot) -> LoopsOfVert<'_>
     requires cycles { AreCycles st.now }
     requires live { IsLive st.now.verts.cells v.0 }
     ensures items { loops_around_left result ≡ loops_around st.now v.0 }
     ensures once { AllDistinct (loops_around st.now v.0) }
-    ensures all { AreComplete st.now → AreTurnsAt st.now v.0 }
+    ensures live { AllLive st.now.loops (loops_around st.now v.0) }
+    ensures all { AreComplete st.now → AreCornersAt st.now v.0 }
     ensures ready { CanGiveLoopsAround result }
 {
     LoopsOfVert {
@@ -131,7 +134,8 @@ fn next_standing(st: &Store, v: Slot, loops: &mut LoopsOfEdge<'_>) -> Option<Slo
 /// An iterator over the faces around a vertex, which [`faces_of_vert`] makes.
 ///
 /// After the last face it answers `None` for ever. An item takes time that grows with the loops passed over and the corners of
-/// their faces.
+/// their faces. A loop that isn't its face's only one at the vertex, or isn't in the face's own cycle, takes one more walk
+/// around the vertex.
 #[derive(Drop)]
 #[must_use]
 pub struct FacesOfVert<'a> {
@@ -162,16 +166,16 @@ impl<'a> Iterator for FacesOfVert<'a> {
 
 impl<'a> FusedIterator for FacesOfVert<'a> {}
 
-/// The faces with a loop at a live vertex whose edge is around it, each once, in any order. Constant time.
+/// The live faces of the loops at a live vertex that [`loops_of_vert`] gives, each once. Constant time.
 ///
-/// A face comes with the first of its loops that stand there and whose edge ends there. Where every dart and every loop is in
-/// its cycles, no face of a loop around the vertex is left out (`all`).
+/// A face comes with the first loop of its own cycle that stands there and whose edge ends there, if that is among those loops,
+/// and else with the first of those that names it. So none is left out (`all`), not even one whose own cycle is half built.
 pub fn faces_of_vert(st: &Store, v: Slot) -> FacesOfVert<'_>
     requires cycles { AreCycles st.now }
     requires live { IsLive st.now.verts.cells v.0 }
     ensures items { faces_around_left result ≡ faces_around st.now v.0 }
     ensures once { AllDistinct (faces_around st.now v.0) }
-    ensures all { AreComplete st.now → HasFacesAround st.now v.0 }
+    ensures all { AreFacesAround st.now v.0 }
     ensures ready { CanGiveFacesAround result }
 {
     FacesOfVert {
@@ -181,24 +185,29 @@ pub fn faces_of_vert(st: &Store, v: Slot) -> FacesOfVert<'_>
     }
 }
 
-// Whether a live loop is the first of its face that stands at a vertex at which its edge ends.
+// Whether a face comes with this loop of it around a live vertex.
 fn leads_around(st: &Store, v: Slot, l: Slot) -> bool
     requires cycles { AreCycles st.now }
-    requires live { IsLive st.now.loops l.0 }
-    ensures { result ≡ leads_face st.now (turns_at st.now v.0) l }
+    requires live { IsLive st.now.verts.cells v.0 }
+    requires member { HasMember (loops_around st.now v.0) l }
+    ensures { result ≡ leads st.now (is_corner_at st.now v.0) (loops_around st.now v.0) l }
 {
     let f = st.loop_face(l);
-    st.has_face(f) && first_turning(st, f, v) == Some(l)
+    if !st.has_face(f) {
+        return false;
+    }
+    let own = first_corner_at(st, f, v);
+    own == Some(l) || own_or_first(st, own, loops_of_vert(st, v), f) == Some(l)
 }
 
-// The first loop of a live face that stands at a vertex at which its edge ends.
-fn first_turning(st: &Store, f: Slot, v: Slot) -> Option<Slot>
+// The first loop of a live face's own cycle that stands at a vertex at which its edge ends.
+fn first_corner_at(st: &Store, f: Slot, v: Slot) -> Option<Slot>
     requires cycles { AreCycles st.now }
     requires live { IsLive st.now.faces.cells f.0 }
-    ensures { result ≡ find (turns_at st.now v.0) (loops_in st.now f.0) }
+    ensures { result ≡ find (is_corner_at st.now v.0) (loops_in st.now f.0) }
 {
     for l in corners_of_face(st, f) {
-        if turns(st, l, v) {
+        if is_corner_at(st, l, v) {
             return Some(l);
         }
     }
@@ -206,9 +215,9 @@ fn first_turning(st: &Store, f: Slot, v: Slot) -> Option<Slot>
 }
 
 // Whether a live loop stands at a vertex at which its edge ends.
-fn turns(st: &Store, l: Slot, v: Slot) -> bool
+fn is_corner_at(st: &Store, l: Slot, v: Slot) -> bool
     requires { IsLive st.now.loops l.0 }
-    ensures { result ≡ turns_at st.now v.0 l }
+    ensures { result ≡ is_corner_at st.now v.0 l }
 {
     st.loop_vert(l) == v && ends(st, st.loop_edge(l), v)
 }

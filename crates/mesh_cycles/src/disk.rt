@@ -3,6 +3,7 @@ ghost use Rattle.std.specs.Prelude.{◌≡◌, [], ◌∷◌, ◌++◌, Some, Is
 ghost use Rattle.std.specs.Option.{option_map};
 ghost use Rattle.raw_pool.specs.Slots.{IsLive};
 ghost use Rattle.link_ring.specs.Members.{HasMember};
+ghost use Rattle.link_ring.specs.Changes.{SameOutside};
 ghost use Rattle.mesh_store.specs.Stored.{dart_links, with_first_edge, change_vert};
 ghost use Rattle.mesh_cycles.specs.Owners.{dart_end, first_dart};
 ghost use Rattle.mesh_cycles.specs.Lists.{same_dart, without};
@@ -22,6 +23,7 @@ pub fn disk_add(st: &mut Store, v: Slot, d: Dart)
     requires end { dart_end st.old d ≡ Some v.0 }
     requires apart { IsInNoDisk st.old d }
     ensures own { disk_of st.new v.0 ≡ disk_of st.old v.0 ++ d ∷ [] }
+    ensures links { SameOutside (dart_links st.old) (dart_links st.new) (d ∷ disk_of st.old v.0) }
     ensures others { SameDisksBut v.0 st.old st.new }
     ensures radials { SameRadials st.old st.new }
     ensures rounds { SameRounds st.old st.new }
@@ -42,6 +44,7 @@ pub fn disk_remove(st: &mut Store, v: Slot, d: Dart)
     requires member { HasMember (disk_of st.old v.0) d }
     ensures own { disk_of st.new v.0 ≡ without same_dart d (disk_of st.old v.0) }
     ensures out { IsInNoDisk st.new d }
+    ensures links { SameOutside (dart_links st.old) (dart_links st.new) (disk_of st.old v.0) }
     ensures others { SameDisksBut v.0 st.old st.new }
     ensures radials { SameRadials st.old st.new }
     ensures rounds { SameRounds st.old st.new }

@@ -1,8 +1,8 @@
 //! The edge that joins two vertices.
 ghost use Rattle.std.specs.Prelude.{◌≡◌, ◌<◌, ◌↔◌, IsTrue, IfSome, MatchOption};
 ghost use Rattle.raw_pool.specs.Slots.{IsLive};
-ghost use Rattle.mesh_cycles.specs.Cycles.{AreCycles};
-ghost use Rattle.mesh_cycles.specs.Found.{HasWholeDisk, joins, NoneJoins, JoinsFirst, number_of};
+ghost use Rattle.mesh_cycles.specs.Cycles.{AreCycles, HasWholeDisk};
+ghost use Rattle.mesh_cycles.specs.Found.{joins, NoneJoins, JoinsFirst, number_of};
 
 use crate::around_vert::edges_of_vert;
 use mesh_store::{Slot, Store};

@@ -1,15 +1,24 @@
-//! A small store, worked out. The checker proves each statement, and no call does anything.
+//! A small store and small lists, worked out. The checker proves each statement, and no call does anything.
 
-ghost use Rattle.mesh_cycles.specs.Rows.{SmallEdges, SmallLoops, SmallCorners, SmallStanding, SmallFaces, SmallAround, SmallNames, SmallJoins};
+ghost use Rattle.mesh_cycles.specs.Rows.{SmallOwners, SmallEdges, SmallLoops, SmallCorners, SmallStanding, SmallFaces, SmallAround, HalfBuiltFaces, HalfBuiltAround, SmallNames, SmallJoins, OneLess, OneMore};
 
-/// Two edges at one vertex, and three faces, of which one has two corners on one edge.
+/// Two edges at one vertex, and three faces, of which one has two corners on one edge; also before these are in its own cycle.
 pub fn small_store()
+    ensures owners { SmallOwners }
     ensures edges { SmallEdges }
     ensures loops { SmallLoops }
     ensures corners { SmallCorners }
     ensures standing { SmallStanding }
     ensures faces { SmallFaces }
     ensures around { SmallAround }
+    ensures half_built_faces { HalfBuiltFaces }
+    ensures half_built_around { HalfBuiltAround }
     ensures names { SmallNames }
     ensures joins { SmallJoins }
+{}
+
+/// A member less, and a member more.
+pub fn lists()
+    ensures less { OneLess }
+    ensures more { OneMore }
 {}

@@ -13,7 +13,9 @@
 //!
 //! | Call | Cost |
 //! |---|---|
-//! | `disk_add`, `disk_remove`, `radial_add`, `radial_remove`, `loop_make`, `loop_insert`, `loop_remove` | constant |
+//! | `disk_add`, `disk_remove`, `radial_add`, `radial_remove`, `loop_make` | constant |
+//! | `loop_insert`, `loop_remove` | the loops of the face |
+//! | `loop_insert_counted`, `loop_remove_counted` | constant |
 //! | iterators | constant to make; what an item costs is said at each |
 //! | `find_edge` | the edges of the first vertex |
 #![tactic(auto)]
@@ -26,6 +28,7 @@ mod face_loops;
 mod find;
 mod in_face;
 pub mod laws;
+mod leader;
 mod members;
 mod radial;
 mod rising;
@@ -40,7 +43,9 @@ pub use around_vert::{
 #[doc(hidden)]
 pub use cycle_iter::CycleIter;
 pub use disk::{disk_add, disk_remove};
-pub use face_loops::{loop_insert, loop_make, loop_remove};
+pub use face_loops::{
+    loop_insert, loop_insert_counted, loop_make, loop_remove, loop_remove_counted,
+};
 pub use find::find_edge;
 pub use in_face::{CornersOfFace, corners_of_face};
 pub use radial::{radial_add, radial_remove};

@@ -3,7 +3,8 @@ ghost use Rattle.std.specs.Prelude.{◌≡◌, [], ◌∷◌, ◌++◌, Some};
 ghost use Rattle.std.specs.Option.{option_map};
 ghost use Rattle.raw_pool.specs.Slots.{IsLive};
 ghost use Rattle.link_ring.specs.Members.{HasMember};
-ghost use Rattle.mesh_store.specs.Stored.{with_first_loop, change_edge};
+ghost use Rattle.link_ring.specs.Changes.{SameOutside};
+ghost use Rattle.mesh_store.specs.Stored.{radial_links, with_first_loop, change_edge};
 ghost use Rattle.mesh_cycles.specs.Owners.{edge_of, first_radial};
 ghost use Rattle.mesh_cycles.specs.Lists.{same_radial, without};
 ghost use Rattle.mesh_cycles.specs.Cycles.{AreCycles, radial_of, IsInNoRadial};
@@ -21,6 +22,7 @@ pub fn radial_add(st: &mut Store, e: Slot, l: Slot)
     requires edge { edge_of st.old l ≡ Some e.0 }
     requires apart { IsInNoRadial st.old l }
     ensures own { radial_of st.new e.0 ≡ radial_of st.old e.0 ++ record { 0 = l } ∷ [] }
+    ensures links { SameOutside (radial_links st.old) (radial_links st.new) (record { 0 = l } ∷ radial_of st.old e.0) }
     ensures disks { SameDisks st.old st.new }
     ensures others { SameRadialsBut e.0 st.old st.new }
     ensures rounds { SameRounds st.old st.new }
@@ -41,6 +43,7 @@ pub fn radial_remove(st: &mut Store, e: Slot, l: Slot)
     requires member { HasMember (radial_of st.old e.0) (record { 0 = l }) }
     ensures own { radial_of st.new e.0 ≡ without same_radial (record { 0 = l }) (radial_of st.old e.0) }
     ensures out { IsInNoRadial st.new l }
+    ensures links { SameOutside (radial_links st.old) (radial_links st.new) (radial_of st.old e.0) }
     ensures disks { SameDisks st.old st.new }
     ensures others { SameRadialsBut e.0 st.old st.new }
     ensures rounds { SameRounds st.old st.new }

@@ -2,6 +2,7 @@
 ghost use Rattle.std.specs.Prelude.{◌≡◌};
 ghost use Rattle.std.specs.Iterator.{YieldsFirst, item_count};
 ghost use Rattle.link_ring.specs.Members.{AllDistinct};
+ghost use Rattle.mesh_store.specs.Naming.{AreNamed};
 ghost use Rattle.mesh_cycles.specs.Found.{by_name};
 ghost use Rattle.mesh_cycles.specs.Left.{verts_rising_left, edges_rising_left, faces_rising_left};
 
@@ -36,9 +37,12 @@ impl<'a> Iterator for VertsRising<'a> {
 impl<'a> FusedIterator for VertsRising<'a> {}
 
 /// The live vertices, by rising name. Constant time.
+///
+/// The names lead to just the live vertices (`named`), each to its own (`once`).
 pub fn verts_rising(st: &Store) -> VertsRising<'_>
     ensures items { verts_rising_left result ≡ by_name st.now.verts.names }
     ensures once { AllDistinct (by_name st.now.verts.names) }
+    ensures named { AreNamed (λ c. c.number) st.now.verts.cells st.now.verts.names }
 {
     // Read for its contract, which says that each name leads to a slot of its own.
     let _ = st.vert_slot(0);
@@ -73,9 +77,12 @@ impl<'a> Iterator for EdgesRising<'a> {
 impl<'a> FusedIterator for EdgesRising<'a> {}
 
 /// The live edges, by rising name. Constant time.
+///
+/// The names lead to just the live edges (`named`), each to its own (`once`).
 pub fn edges_rising(st: &Store) -> EdgesRising<'_>
     ensures items { edges_rising_left result ≡ by_name st.now.edges.names }
     ensures once { AllDistinct (by_name st.now.edges.names) }
+    ensures named { AreNamed (λ c. c.number) st.now.edges.cells st.now.edges.names }
 {
     // Read for its contract, which says that each name leads to a slot of its own.
     let _ = st.edge_slot(0);
@@ -110,9 +117,12 @@ impl<'a> Iterator for FacesRising<'a> {
 impl<'a> FusedIterator for FacesRising<'a> {}
 
 /// The live faces, by rising name. Constant time.
+///
+/// The names lead to just the live faces (`named`), each to its own (`once`).
 pub fn faces_rising(st: &Store) -> FacesRising<'_>
     ensures items { faces_rising_left result ≡ by_name st.now.faces.names }
     ensures once { AllDistinct (by_name st.now.faces.names) }
+    ensures named { AreNamed (λ c. c.number) st.now.faces.cells st.now.faces.names }
 {
     // Read for its contract, which says that each name leads to a slot of its own.
     let _ = st.face_slot(0);

@@ -66,7 +66,10 @@ fn corners_of_a_face(rt: HostRuntime) -> Result<(), Fail> {
     mesh.corners_are(&rt, 0, &[a, b, c, d]);
     mesh.take_corner(&rt, 0);
     mesh.corners_are(&rt, 0, &[b, c, d]);
-    mesh.take_corner(&rt, 0);
+    mesh.swap_corners(&rt, 0);
+    mesh.corners_are(&rt, 0, &[c, b, d]);
+    mesh.take_second_corner(&rt, 0);
+    mesh.corners_are(&rt, 0, &[c, d]);
     mesh.take_corner(&rt, 0);
     mesh.take_corner(&rt, 0);
     mesh.corners_are(&rt, 0, &[]);
@@ -153,6 +156,39 @@ fn a_face_twice_along_an_edge(rt: HostRuntime) -> Result<(), Fail> {
     mesh.loops_at_are(&rt, 2, &[]);
     mesh.faces_at_are(&rt, 0, &[1]);
     mesh.faces_at_are(&rt, 1, &[1, 0]);
+    mesh.faces_at_are(&rt, 2, &[]);
+    Ok(())
+}
+
+#[test]
+fn faces_of_half_built_cycles(rt: HostRuntime) -> Result<(), Fail> {
+    let mut mesh = Sample::new(rt.alloc(), 32)?;
+    mesh.add_verts(&rt, 3);
+    mesh.join(&rt, 0, 0, 1);
+    mesh.join(&rt, 1, 1, 2);
+    mesh.add_faces(&rt, 3);
+    // Face 2 begins with a loop that the cycle of its edge doesn't have.
+    let apart = mesh.add_corner(&rt, 0, 0, 2);
+    mesh.take_loop(&rt, 0);
+    let a = mesh.add_loop(&rt, 0, 0, 0);
+    let b = mesh.add_loop(&rt, 1, 0, 1);
+    let c = mesh.add_corner(&rt, 0, 0, 0);
+    let d = mesh.add_loop(&rt, 0, 0, 1);
+    let e = mesh.add_corner(&rt, 1, 0, 2);
+    let f = mesh.add_loop(&rt, 0, 0, 2);
+    let g = mesh.add_loop(&rt, 1, 1, 0);
+    mesh.corners_are(&rt, 0, &[c]);
+    mesh.corners_are(&rt, 1, &[]);
+    mesh.corners_are(&rt, 2, &[apart, e]);
+    mesh.loops_are(&rt, 0, &[a, b, c, d, e, f]);
+    // With b, c and e.
+    mesh.faces_along_are(&rt, 0, &[1, 0, 2]);
+    mesh.faces_along_are(&rt, 1, &[0]);
+    mesh.loops_at_are(&rt, 0, &[a, c, d, f]);
+    // With c, d and f.
+    mesh.faces_at_are(&rt, 0, &[0, 1, 2]);
+    mesh.loops_at_are(&rt, 1, &[b, e, g]);
+    mesh.faces_at_are(&rt, 1, &[1, 2, 0]);
     mesh.faces_at_are(&rt, 2, &[]);
     Ok(())
 }

@@ -17,7 +17,3 @@ module _ {X : Type 0} (xs : List (Option X)) where
   -- and nowhere else
   pub unwritten : (s t : ℕ) (o : Option X) → (t ≡ s → ⊥) → at (slice_set xs s o) t ≡ at xs t
   unwritten s t o n = get_or-set_other xs s t o None n
-
--- two different values
-pub some_differ : {X : Type 0} {x y : X} → Some x ≡ Some y → x ≡ y
-some_differ e = cc

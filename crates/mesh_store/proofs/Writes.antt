@@ -1,5 +1,5 @@
 -- A write over one cell, as the links and the spare slots see it.
-use Rattle.std.proofs.Common.{◌≡◌, ℕ, zero, suc, ◌<◌, List, [], ◌∷◌, Option, Some, None, map, length, refl, sym, ap, ◌∙◌}
+use Rattle.std.proofs.Common.{◌≡◌, ℕ, ◌<◌, List, Option, Some, None, map, length, sym, ap, ◌∙◌, set-set}
 use Rattle.std.specs.Prelude.{slice_set}
 use Rattle.std.specs.Option.{option_map}
 use Rattle.std.proofs.Math.Seq.{map-set_same}
@@ -12,12 +12,6 @@ use Rattle.mesh_store.specs.Stored.{Stored, without_disk, without_radial, withou
 use Rattle.mesh_store.specs.declared.cells.EdgeCell.{EdgeCell}
 use Rattle.mesh_store.specs.declared.cells.LoopCell.{LoopCell}
 use Rattle.mesh_store.proofs.Places.{written}
-
--- of two writes to one place the second counts
-pub write_twice : {X : Type 0} (xs : List X) (i : ℕ) (a b : X) → slice_set (slice_set xs i a) i b ≡ slice_set xs i b
-write_twice [] i a b = refl
-write_twice (x ∷ xs) zero a b = refl
-write_twice {X} (x ∷ xs) (suc i) a b = ap (λ (ys : List X). x ∷ ys) (write_twice xs i a b)
 
 -- a write that leaves what f tells of a cell leaves it of all
 beside : {X Y : Type 0} (f : X → Y) (xs : List (Option X)) (s : ℕ) (x y : X) → at xs s ≡ Some x → f y ≡ f x → map (option_map f) (slice_set xs s (Some y)) ≡ map (option_map f) xs
@@ -45,7 +39,7 @@ pub added_over : {X : Type 0} (p q r : NamedCells X) (names : List (Option Slot)
 added_over {X} p q r names s x y e f =
     f
     ∙ ap (λ (t : NamedCells X). record { cells = slice_set t.cells s (Some y); names = t.names }) e
-    ∙ ap (λ (cs : List (Option X)). record { cells = cs; names = names }) (write_twice p.cells s (Some x) (Some y))
+    ∙ ap (λ (cs : List (Option X)). record { cells = cs; names = names }) (set-set p.cells s (Some x) (Some y))
 
 -- the write over takes no slot
 pub spare_over : {X : Type 0} (xs ys : List (Option X)) (s : ℕ) (x y : X) → s < length xs → ys ≡ slice_set xs s (Some x) → spare_count (slice_set ys s (Some y)) ≡ spare_count ys

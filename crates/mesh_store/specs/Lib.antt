@@ -4,3 +4,4 @@ pub mod Inside
 pub mod Stored
 pub mod Room
 pub mod Limits
+pub mod Rows

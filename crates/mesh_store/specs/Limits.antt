@@ -2,7 +2,7 @@
 use Rattle.std.specs.Prelude.{◌≡◌, ◌≤◌, ◌<◌, ◌+◌, ◌*◌, ◌&&◌, ℕ, zero, suc, Bool, true, false, nat_lt, is_some, IsTrue, List, [], ◌∷◌, length}
 use Rattle.std.specs.declared.option.Option.{Option}
 use Rattle.std.proofs.Common.{refl, arith}
-use Rattle.std.proofs.lemmas.Bool.{ltb-true}
+use Rattle.std.proofs.lemmas.Bool.{and_parts, ltb-true}
 use Rattle.link_ring.specs.Members.{AllDistinct}
 use Rattle.link_ring.specs.Ring.{AllKeys}
 use Rattle.link_ring.specs.Limits.{key_of, keys_limited}
@@ -18,24 +18,18 @@ live_below [] s e = cc
 live_below (x ∷ xs) zero e = omega arith
 live_below (x ∷ xs) (suc s) e = omega (arith, live_below xs s e)
 
--- two tests that both hold
-pub both : (a b : Bool) → IsTrue (a && b) → (a ≡ true) × (b ≡ true)
-both true true h = (refl, refl)
-both true false h = cc
-both false b h = cc
-
 -- a dart's edge is live, and its side is 0 or 1
 pub is_dart : (st : Stored) (d : Dart) → IsTrue ((dart_links st).has d) → (is_some (at st.edges.cells d.edge.0) ≡ true) × (d.side < 2)
-is_dart st d h = let t = both (is_some (at st.edges.cells d.edge.0)) (nat_lt d.side 2) h in (t.0, ltb-true d.side 2 t.1)
+is_dart st d h = let t = and_parts (is_some (at st.edges.cells d.edge.0)) (nat_lt d.side 2) h in (t.0, ltb-true d.side 2 t.1)
 
 -- darts are equal where their parts are
-pub same_dart : (a b : Dart) → a.edge.0 ≡ b.edge.0 → a.side ≡ b.side → a ≡ b
-same_dart a b p q = λ i. record { edge = record { 0 = p i }; side = q i }
+pub equal_darts : (a b : Dart) → a.edge.0 ≡ b.edge.0 → a.side ≡ b.side → a ≡ b
+equal_darts a b p q = λ i. record { edge = record { 0 = p i }; side = q i }
 
 -- there are at most two darts for each place of an edge
 pub darts_limited : (st : Stored) (ds : List Dart) → AllDistinct ds → AllKeys (dart_links st) ds → length ds ≤ 2 * length st.edges.cells
 darts_limited st ds d k = keys_limited (λ (x : Dart). 2 * x.edge.0 + x.side) (2 * length st.edges.cells) ds d
-    (λ a b p q e. let s = (is_dart st a (key_of (dart_links st) ds a k p)).1 in let t = (is_dart st b (key_of (dart_links st) ds b k q)).1 in same_dart a b (omega arith) (omega arith))
+    (λ a b p q e. let s = (is_dart st a (key_of (dart_links st) ds a k p)).1 in let t = (is_dart st b (key_of (dart_links st) ds b k q)).1 in equal_darts a b (omega arith) (omega arith))
     (λ x p. let h = is_dart st x (key_of (dart_links st) ds x k p) in let l = live_below st.edges.cells x.edge.0 h.0 in let t = h.1 in omega arith)
 
 -- there is at most one loop for each place

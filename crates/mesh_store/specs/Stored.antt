@@ -83,7 +83,7 @@ change_face f st s = record st { faces = record { cells = changed f st.faces.cel
 abbrev pub new_vert : ℕ → List ℤ → VertCell
 new_vert name point = record { number = name; point = point; first_edge = None }
 
--- a dart's two links
+-- a dart's two links, where it stands alone
 abbrev pub own_link : Dart → DiskLink
 own_link d = record { next = d; prev = d }
 

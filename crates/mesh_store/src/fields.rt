@@ -195,10 +195,11 @@ impl Store {
         self.faces.get(s).number
     }
 
-    /// The loop with which a face's loop cycle begins, or `None`.
+    /// The loop with which a face's loop cycle begins, or `None`. There are never as many loops as 32 bits could count.
     pub fn face_loop(&self, s: Slot) -> Option<Slot>
         requires { IsLive self.now.faces.cells s.0 }
-        ensures { option_map (λ c. c.first_loop) (at self.now.faces.cells s.0) ≡ Some result }
+        ensures first { option_map (λ c. c.first_loop) (at self.now.faces.cells s.0) ≡ Some result }
+        ensures few { length self.now.loops < 2 ^ 32 }
     {
         self.faces.get(s).first_loop
     }

@@ -18,14 +18,17 @@
 
 mod cells;
 mod fields;
+pub mod laws;
 mod links;
 mod named_pool;
 mod store;
 #[cfg(test)]
 mod tests;
 
-pub use cells::{Dart, DiskLink, EdgeCell, FaceCell, LoopCell, Numbered, Radial, Round, VertCell};
+pub use cells::{Dart, DiskLink, EdgeCell, FaceCell, LoopCell, Radial, Round, VertCell};
 // A crate can name a store in a contract only if the types of its fields are exported.
+#[doc(hidden)]
+pub use cells::Numbered;
 #[doc(hidden)]
 pub use named_pool::NamedPool;
 pub use raw_pool::{NoMemory, Slot};

@@ -64,9 +64,9 @@ impl Store {
     /// Makes room for so many more elements of each kind, and for the names of vertices, edges and faces below the three
     /// numbers of `reach`.
     ///
-    /// Where there is room already, nothing changes. Otherwise a pool grows by less than what is asked and a chunk. After
-    /// an error some of the room may have been made, and all elements and names are as they were. It takes time that grows
-    /// with what is added.
+    /// Where there is room already, nothing changes. Otherwise a pool grows by less than what is asked and a chunk; with
+    /// these its places have to stay below 2^32. After an error, which is want of memory, some of the room may have been made,
+    /// and all elements and names are as they were. It takes time that grows with what is added.
     pub fn reserve(
         &mut self,
         verts: usize,
@@ -92,8 +92,10 @@ impl Store {
 }
 
 /// Elements come and go. Each call takes constant time, and changes only its own element and that element's name.
+///
+/// Where one is added with a name there is room for it, and the name is within reach and not live.
 impl Store {
-    /// Adds a vertex with no edge.
+    /// Adds a vertex with no edge at a point, whose coordinates are in units of the grid.
     pub fn add_vert(&mut self, name: u32, p: [i64; 3]) -> Slot
         requires room { 1 ≤ spare_count self.old.verts.cells }
         requires reach { name < length self.old.verts.names }
@@ -114,7 +116,7 @@ impl Store {
         })
     }
 
-    /// Adds an edge with no loop, whose darts are in no cycle: the links of each lead to itself.
+    /// Adds an edge with no loop. The links of each of its darts lead to that dart.
     pub fn add_edge(&mut self, name: u32, ends: [Slot; 2]) -> Slot
         requires room { 1 ≤ spare_count self.old.edges.cells }
         requires reach { name < length self.old.edges.names }
@@ -133,7 +135,7 @@ impl Store {
         slot
     }
 
-    /// Adds a loop that is in no cycle: its links lead to itself.
+    /// Adds a loop whose links lead to itself. There is room for one.
     pub fn add_loop(&mut self, vert: Slot, edge: Slot, face: Slot) -> Slot
         requires { 1 ≤ spare_count self.old.loops }
         ensures vacant { (result.0 < length self.old.loops) × (at self.old.loops result.0 ≡ None) }

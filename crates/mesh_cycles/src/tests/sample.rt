@@ -10,12 +10,16 @@ use crate::face_loops::first_round;
 use crate::radial::first_radial;
 use crate::{
     corners_of_face, disk_add, disk_remove, edges_of_vert, faces_of_edge, faces_of_vert,
-    loop_insert, loop_make, loop_remove, loops_of_edge, loops_of_vert, radial_add, radial_remove,
+    loop_insert, loop_insert_counted, loop_make, loop_remove, loop_remove_counted, loops_of_edge,
+    loops_of_vert, radial_add, radial_remove,
 };
 use link_ring::Links;
 use mesh_store::{Dart, NoMemory, Slot, Store};
 use std::alloc::Global;
 use std::process::Abort;
+
+// More than any face has.
+const WRONG_LEN: u32 = 1_000_000_000;
 
 /// A store, the room that is left for elements of each kind, and the reach of its names.
 #[derive(Drop)]
@@ -130,6 +134,21 @@ impl Sample {
         for name in 0..count {
             self.add_face(rt, name);
         }
+    }
+
+    /// Adds a loop, and puts it last along its edge. Its face's own cycle doesn't get it.
+    pub fn add_loop(&mut self, rt: &impl Abort, vert: u32, edge: u32, face: u32) -> Slot
+        requires { IsSample self.old.st self.old.left self.old.reach }
+        ensures { IsSample self.new.st self.new.left self.new.reach }
+    {
+        assert!(rt; self.left > 0);
+        let vert = self.vert(rt, vert);
+        let edge = self.edge(rt, edge);
+        let face = self.face(rt, face);
+        self.left -= 1;
+        let l = self.st.add_loop(vert, edge, face);
+        radial_add(&mut self.st, edge, l);
+        l
     }
 
     /// Adds a loop, and puts it last along its edge and last around its face.
@@ -343,10 +362,10 @@ impl Sample {
         let Some(first) = first_round(&self.st, face) else {
             panic!(rt; "no corner");
         };
-        loop_remove(&mut self.st, face, first.0);
+        loop_remove_counted(&mut self.st, face, first.0);
     }
 
-    /// Takes the second loop of a face out of the face's loop cycle; the only one, where there is one.
+    /// Takes the second loop of a face with a wrong length out of the face's loop cycle; the only one, where there is one.
     pub fn take_second_corner(&mut self, rt: &impl Abort, face: u32)
         requires { IsSample self.old.st self.old.left self.old.reach }
         ensures { IsSample self.new.st self.new.left self.new.reach }
@@ -356,6 +375,7 @@ impl Sample {
             panic!(rt; "no corner");
         };
         let second = self.st.next(first);
+        self.st.set_face_len(face, WRONG_LEN);
         loop_remove(&mut self.st, face, second.0);
     }
 
@@ -370,6 +390,19 @@ impl Sample {
         };
         loop_remove(&mut self.st, face, first.0);
         put_corner(&mut self.st, face, first.0);
+    }
+
+    /// Takes the first of several loops of a face out, and puts it second.
+    pub fn swap_corners(&mut self, rt: &impl Abort, face: u32)
+        requires { IsSample self.old.st self.old.left self.old.reach }
+        ensures { IsSample self.new.st self.new.left self.new.reach }
+    {
+        let face = self.face(rt, face);
+        let Some(first) = first_round(&self.st, face) else {
+            panic!(rt; "no corner");
+        };
+        loop_remove(&mut self.st, face, first.0);
+        put_second(rt, &mut self.st, face, first.0);
     }
 }
 
@@ -402,5 +435,20 @@ fn put_corner(st: &mut Store, face: Slot, l: Slot)
         return;
     };
     let last = st.prev(first);
-    loop_insert(st, last.0, l);
+    loop_insert_counted(st, last.0, l);
+}
+
+// Puts a loop second around its face, which has a loop and whose length is wrong by then.
+fn put_second(rt: &impl Abort, st: &mut Store, face: Slot, l: Slot)
+    requires cycles { AreCycles st.old }
+    requires live { IsLive st.old.faces.cells face.0 }
+    requires face { face_of st.old l ≡ Some face.0 }
+    requires apart { IsInNoRound st.old l }
+    ensures { StaysSample st.old st.new }
+{
+    let Some(first) = first_round(st, face) else {
+        panic!(rt; "no corner");
+    };
+    st.set_face_len(face, WRONG_LEN);
+    loop_insert(st, first.0, l);
 }

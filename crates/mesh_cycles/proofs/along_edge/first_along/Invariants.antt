@@ -1,8 +1,7 @@
 use Rattle.std.proofs.Common.{◌≡◌}
 use Rattle.std.specs.List.{find}
-use Rattle.mesh_cycles.specs.Found.{loops_in, goes_along}
+use Rattle.mesh_cycles.specs.Found.{AllLive, loops_in, goes_along}
 use Rattle.mesh_cycles.specs.Left.{loops_in_left}
-use Rattle.mesh_cycles.specs.Around.{AllLive}
 use Rattle.mesh_cycles.proofs.along_edge.first_along.Given as goal
 
 -- what is searched for is not among the loops passed

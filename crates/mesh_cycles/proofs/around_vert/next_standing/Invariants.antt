@@ -1,6 +1,7 @@
 use Rattle.std.proofs.Common.{◌≡◌, length}
 use Rattle.mesh_cycles.specs.Left.{loops_along_left, CanGiveLoopsAlong}
-use Rattle.mesh_cycles.specs.Around.{AllLive, standing_left}
+use Rattle.mesh_cycles.specs.Found.{AllLive}
+use Rattle.mesh_cycles.specs.Around.{standing_left}
 use Rattle.mesh_cycles.proofs.around_vert.next_standing.Given as goal
 
 -- no loop that stands at the vertex is passed over

@@ -1,64 +1,48 @@
-use Rattle.std.proofs.Common.{◌≡◌, length, refl, sym, ◌∙◌, arith}
-use Rattle.link_ring.proofs.Reading.{member_without}
-use Rattle.mesh_store.specs.Slots.{at}
-use Rattle.mesh_store.proofs.Places.{some_differ}
-use Rattle.mesh_cycles.specs.Cycles.{round_of}
-use Rattle.mesh_cycles.proofs.LoopCalls.{names_face, named_face, one_more, loop_inserted}
+use Rattle.std.proofs.Common.{◌≡◌, ◌∷◌, ℕ, Some, sym, ap, ◌∙◌, subst}
+use Rattle.std.proofs.lemmas.Option.{same_Some}
+use Rattle.link_ring.proofs.Members.{member_of}
+use Rattle.mesh_cycles.specs.Owners.{face_of}
+use Rattle.mesh_cycles.specs.Lists.{same_round, with_behind}
+use Rattle.mesh_cycles.specs.Cycles.{IsCounted}
+use Rattle.mesh_cycles.specs.Edits.{beside_round}
+use Rattle.mesh_cycles.proofs.LoopCalls.{named_face, face_live}
+use Rattle.mesh_cycles.proofs.Counts.{IsRecounted, recounted, same_through}
 use Rattle.mesh_cycles.proofs.face_loops.loop_insert.Goals as goal
 
-pub insert_after-requires-clause-apart : goal.insert_after-requires-clause-apart
-insert_after-requires-clause-apart c =
-    let f = c.loop_face-face.result.0 in
+pub count_loops-requires-clause-live : goal.count_loops-requires-clause-live
+count_loops-requires-clause-live c =
     let a = named_face c.args.st.now c.args.after c.loop_face-face.result c.requires.cycles c.requires.member c.loop_face-face.ensures in
-    member_without (record { 0 = c.args.after }) (record { 0 = c.args.l }) (c.requires.cycles.rounds f) a.member (c.requires.apart f)
+    face_live c.args.st.now c.loop_face-face.result.0 (record { 0 = c.args.after }) a.member
 
-pub overflow_add-len : goal.overflow_add-len
-overflow_add-len c =
-    let f = c.loop_face-face.result.0 in
-    let a = named_face c.args.st.now c.args.after c.loop_face-face.result c.requires.cycles c.requires.member c.loop_face-face.ensures in
-    let was : c.face_len-len.result ≡ length (round_of c.args.st.now f) = some_differ (sym c.face_len-len.ensures.len ∙ a.counted) in
-    let more = one_more c.args.st.now f c.args.l c.requires.cycles c.requires.apart c.requires.live in
-    let few = c.face_len-len.ensures.few in
-    omega arith
+pub loop_insert_counted-requires : goal.loop_insert_counted-requires
+loop_insert_counted-requires c =
+    let st = c.args.st.now in let mid = c.count_loops.new.st in let face = c.loop_face-face.result in
+    let a = named_face st c.args.after face c.requires.cycles c.requires.member c.loop_face-face.ensures in
+    let r = recounted st mid face c.requires.cycles (face_live st face.0 (record { 0 = c.args.after }) a.member) c.count_loops.ensures in
+    let P = IsCounted mid in
+    record {
+      cycles = r.same.cycles;
+      member = (face.0, member_of (record { 0 = c.args.after }) a.member (sym (r.same.rounds face.0)));
+      counted = λ f is. subst P (same_Some _ _ (sym a.face ∙ sym (r.faces c.args.after) ∙ is)) r.counted;
+      same = r.faces c.args.l ∙ c.requires.same ∙ sym (r.faces c.args.after);
+      apart = λ f m. c.requires.apart f (member_of (record { 0 = c.args.l }) m (r.same.rounds f));
+    }
 
-pub returns-clause-own : goal.returns-clause-own
-returns-clause-own c = λ f e.
-    (loop_inserted c.args.st.now c.insert_after.new.links c.set_face_len.new.self (record { 0 = c.args.after }) (record { 0 = c.args.l }) c.loop_face-face.result c.face_len-len.result
-    c.requires.cycles c.requires.member c.requires.same c.loop_face-face.ensures c.face_len-len.ensures.len c.insert_after.ensures.ring c.insert_after.ensures.others
-    (record { rest = c.insert_after.ensures.rest; write = c.set_face_len.ensures; covered = λ k. refl })
-    f e).own
-
-pub returns-clause-len : goal.returns-clause-len
-returns-clause-len c = λ f e.
-    (loop_inserted c.args.st.now c.insert_after.new.links c.set_face_len.new.self (record { 0 = c.args.after }) (record { 0 = c.args.l }) c.loop_face-face.result c.face_len-len.result
-    c.requires.cycles c.requires.member c.requires.same c.loop_face-face.ensures c.face_len-len.ensures.len c.insert_after.ensures.ring c.insert_after.ensures.others
-    (record { rest = c.insert_after.ensures.rest; write = c.set_face_len.ensures; covered = λ k. refl })
-    f e).len
-
-pub returns-clause-radials : goal.returns-clause-radials
-returns-clause-radials c =
-    (loop_inserted c.args.st.now c.insert_after.new.links c.set_face_len.new.self (record { 0 = c.args.after }) (record { 0 = c.args.l }) c.loop_face-face.result c.face_len-len.result
-    c.requires.cycles c.requires.member c.requires.same c.loop_face-face.ensures c.face_len-len.ensures.len c.insert_after.ensures.ring c.insert_after.ensures.others
-    (record { rest = c.insert_after.ensures.rest; write = c.set_face_len.ensures; covered = λ k. refl })
-    c.loop_face-face.result.0 (names_face (at c.args.st.now.loops c.args.after.0) c.loop_face-face.result c.loop_face-face.ensures)).radials
-
-pub returns-clause-others : goal.returns-clause-others
-returns-clause-others c = λ f e.
-    (loop_inserted c.args.st.now c.insert_after.new.links c.set_face_len.new.self (record { 0 = c.args.after }) (record { 0 = c.args.l }) c.loop_face-face.result c.face_len-len.result
-    c.requires.cycles c.requires.member c.requires.same c.loop_face-face.ensures c.face_len-len.ensures.len c.insert_after.ensures.ring c.insert_after.ensures.others
-    (record { rest = c.insert_after.ensures.rest; write = c.set_face_len.ensures; covered = λ k. refl })
-    f e).others
-
-pub returns-clause-rest : goal.returns-clause-rest
-returns-clause-rest c = λ f e.
-    (loop_inserted c.args.st.now c.insert_after.new.links c.set_face_len.new.self (record { 0 = c.args.after }) (record { 0 = c.args.l }) c.loop_face-face.result c.face_len-len.result
-    c.requires.cycles c.requires.member c.requires.same c.loop_face-face.ensures c.face_len-len.ensures.len c.insert_after.ensures.ring c.insert_after.ensures.others
-    (record { rest = c.insert_after.ensures.rest; write = c.set_face_len.ensures; covered = λ k. refl })
-    f e).rest
-
-pub returns-clause-cycles : goal.returns-clause-cycles
-returns-clause-cycles c =
-    (loop_inserted c.args.st.now c.insert_after.new.links c.set_face_len.new.self (record { 0 = c.args.after }) (record { 0 = c.args.l }) c.loop_face-face.result c.face_len-len.result
-    c.requires.cycles c.requires.member c.requires.same c.loop_face-face.ensures c.face_len-len.ensures.len c.insert_after.ensures.ring c.insert_after.ensures.others
-    (record { rest = c.insert_after.ensures.rest; write = c.set_face_len.ensures; covered = λ k. refl })
-    c.loop_face-face.result.0 (names_face (at c.args.st.now.loops c.args.after.0) c.loop_face-face.result c.loop_face-face.ensures)).cycles
+pub returns : goal.returns
+returns c =
+    let st = c.args.st.now in let mid = c.count_loops.new.st in let face = c.loop_face-face.result in
+    let a = named_face st c.args.after face c.requires.cycles c.requires.member c.loop_face-face.ensures in
+    let r = recounted st mid face c.requires.cycles (face_live st face.0 (record { 0 = c.args.after }) a.member) c.count_loops.ensures in
+    let e = c.loop_insert_counted.ensures in
+    let named : (f : ℕ) → face_of st c.args.after ≡ Some f → face_of mid c.args.after ≡ Some f = λ f is. r.faces c.args.after ∙ is in
+    let P = λ (f : ℕ). beside_round mid f ≡ beside_round st f in
+    record {
+      own = λ f is. e.own f (named f is) ∙ ap (with_behind same_round (record { 0 = c.args.after }) (record { 0 = c.args.l })) (r.same.rounds f);
+      links = λ f is. (let P = IsRecounted st mid in same_through c.loop_insert_counted.new.st (λ ls. record { 0 = c.args.l } ∷ ls) (subst P (same_Some _ _ (sym a.face ∙ is)) r) (e.links f (named f is)));
+      len = λ f is. e.len f (named f is);
+      disks = λ v. e.disks v ∙ r.same.disks v;
+      radials = λ d. e.radials d ∙ r.same.radials d;
+      others = λ f is g ne. e.others f (named f is) g ne ∙ r.same.rounds g;
+      rest = λ f is. e.rest f (named f is) ∙ subst P (same_Some _ _ (sym a.face ∙ is)) r.rest;
+      cycles = e.cycles;
+    }

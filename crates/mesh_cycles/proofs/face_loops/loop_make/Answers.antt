@@ -3,27 +3,9 @@ use Rattle.mesh_cycles.proofs.Rounds.{writes_both}
 use Rattle.mesh_cycles.proofs.LoopCalls.{loop_made}
 use Rattle.mesh_cycles.proofs.face_loops.loop_make.Goals as goal
 
-pub returns-clause-own : goal.returns-clause-own
-returns-clause-own c =
-    (loop_made c.args.st.now c.start_ring.new.links c.set_face_len.new.self c.args.f.0 (record { 0 = c.args.l }) c.requires.cycles c.requires.live c.requires.face
-    c.start_ring.ensures.ring c.start_ring.ensures.others (writes_both c.args.f.0 (Some c.args.l) 1 c.start_ring.ensures.rest c.set_first_round.ensures c.set_face_len.ensures)).own
-
-pub returns-clause-radials : goal.returns-clause-radials
-returns-clause-radials c =
-    (loop_made c.args.st.now c.start_ring.new.links c.set_face_len.new.self c.args.f.0 (record { 0 = c.args.l }) c.requires.cycles c.requires.live c.requires.face
-    c.start_ring.ensures.ring c.start_ring.ensures.others (writes_both c.args.f.0 (Some c.args.l) 1 c.start_ring.ensures.rest c.set_first_round.ensures c.set_face_len.ensures)).radials
-
-pub returns-clause-others : goal.returns-clause-others
-returns-clause-others c =
-    (loop_made c.args.st.now c.start_ring.new.links c.set_face_len.new.self c.args.f.0 (record { 0 = c.args.l }) c.requires.cycles c.requires.live c.requires.face
-    c.start_ring.ensures.ring c.start_ring.ensures.others (writes_both c.args.f.0 (Some c.args.l) 1 c.start_ring.ensures.rest c.set_first_round.ensures c.set_face_len.ensures)).others
-
-pub returns-clause-rest : goal.returns-clause-rest
-returns-clause-rest c =
-    (loop_made c.args.st.now c.start_ring.new.links c.set_face_len.new.self c.args.f.0 (record { 0 = c.args.l }) c.requires.cycles c.requires.live c.requires.face
-    c.start_ring.ensures.ring c.start_ring.ensures.others (writes_both c.args.f.0 (Some c.args.l) 1 c.start_ring.ensures.rest c.set_first_round.ensures c.set_face_len.ensures)).rest
-
-pub returns-clause-cycles : goal.returns-clause-cycles
-returns-clause-cycles c =
-    (loop_made c.args.st.now c.start_ring.new.links c.set_face_len.new.self c.args.f.0 (record { 0 = c.args.l }) c.requires.cycles c.requires.live c.requires.face
-    c.start_ring.ensures.ring c.start_ring.ensures.others (writes_both c.args.f.0 (Some c.args.l) 1 c.start_ring.ensures.rest c.set_first_round.ensures c.set_face_len.ensures)).cycles
+pub returns : goal.returns
+returns c =
+    let written = writes_both c.args.f.0 (Some c.args.l) 1 c.start_ring.ensures.rest c.set_first_round.ensures c.set_face_len.ensures in
+    let e = loop_made c.args.st.now c.start_ring.new.links c.set_face_len.new.self c.args.f.0 (record { 0 = c.args.l }) c.requires.cycles c.requires.live c.requires.face
+    c.start_ring.ensures.ring c.start_ring.ensures.others written in
+    record { own = e.own; links = e.links; len = e.len; disks = e.disks; radials = e.radials; others = e.others; rest = e.rest; cycles = e.cycles }

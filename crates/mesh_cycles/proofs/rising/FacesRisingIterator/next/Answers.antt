@@ -1,7 +1,8 @@
 use Rattle.std.proofs.Common.{length, ap, arith}
+use Rattle.mesh_store.proofs.Names.{first_live}
 use Rattle.mesh_store.specs.declared.cells.FaceCell.{FaceCell}
 use Rattle.mesh_cycles.specs.Left.{faces_rising_left}
-use Rattle.mesh_cycles.proofs.ByName.{none_by_name, named_live, next_by_name, yields_none}
+use Rattle.mesh_cycles.proofs.ByName.{none_by_name, next_by_name, yields_none}
 use Rattle.mesh_cycles.proofs.rising.FacesRisingIterator.next.Goals as goal
 
 pub returns-in_err-slot-clause-steps : goal.returns-in_err-slot-clause-steps
@@ -9,9 +10,7 @@ returns-in_err-slot-clause-steps c =
     yields_none faces_rising_left c.args.self.now c.from_residual.result (cc) (none_by_name c.args.self.now.st.now.faces.names c.args.self.now.from c.in_err-slot.ensures.slot)
 
 pub face_number-requires : goal.face_number-requires
-face_number-requires c =
-    let st = c.args.self.now.st.now in
-    named_live (λ (x : FaceCell). x.number) st.faces.cells st.faces.names c.args.self.now.from c.in_ok-slot.slot c.in_ok-slot.ensures.named c.in_ok-slot.ensures.slot
+face_number-requires c = first_live c.in_ok-slot.ensures.named c.args.self.now.from c.in_ok-slot.slot c.in_ok-slot.ensures.slot
 
 pub returns-clause-steps : goal.returns-clause-steps
 returns-clause-steps c =

@@ -9,7 +9,7 @@ put_corner-requires-clause-face g c =
     let f = c.face-face.result.0 in
     let l = c.in-Some.first in
     round_face_of c.args.self.now.st c.loop_remove.new.st f c.loop_remove.ensures.rest l.0
-    ∙ c.requires.cycles.round_faces f l (first_member l (c.requires.cycles.rounds f) (sym c.in-Some.ensures))
+    ∙ c.requires.cycles.round_faces f l (first_member l (c.requires.cycles.rounds f) (sym c.in-Some.ensures.first))
 
 pub returns : goal.returns
 returns g c =

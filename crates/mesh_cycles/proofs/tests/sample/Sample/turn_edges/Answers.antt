@@ -1,7 +1,8 @@
 use Rattle.std.proofs.Common.{◌∙◌, sym}
 use Rattle.mesh_cycles.proofs.Besides.{disk_darts, disk_ends}
 use Rattle.mesh_cycles.proofs.TestStores.{sample_disk}
-use Rattle.mesh_cycles.proofs.Stays.{first_member, member_key}
+use Rattle.mesh_cycles.proofs.RingLists.{member_key}
+use Rattle.mesh_cycles.proofs.Stays.{first_member}
 use Rattle.mesh_cycles.proofs.tests.sample.Sample.turn_edges.Goals as goal
 
 pub disk_add-requires-clause-dart : goal.disk_add-requires-clause-dart

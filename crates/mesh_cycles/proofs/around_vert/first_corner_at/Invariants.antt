@@ -1,14 +1,13 @@
 use Rattle.std.proofs.Common.{◌≡◌}
 use Rattle.std.specs.List.{find}
-use Rattle.mesh_cycles.specs.Found.{loops_in, turns_at}
+use Rattle.mesh_cycles.specs.Found.{AllLive, loops_in, is_corner_at}
 use Rattle.mesh_cycles.specs.Left.{loops_in_left}
-use Rattle.mesh_cycles.specs.Around.{AllLive}
-use Rattle.mesh_cycles.proofs.around_vert.first_turning.Given as goal
+use Rattle.mesh_cycles.proofs.around_vert.first_corner_at.Given as goal
 
 -- what is searched for is not among the loops passed
 abbrev pub invariant-loop-l : goal.invariant-loop-l
 invariant-loop-l l = record {
   ready : goal.iterator-loop-l.can_next l.l-iterator;
   live : AllLive l.st.loops (loops_in_left l.l-iterator);
-  same : find (turns_at l.st l.v.0) (loops_in_left l.l-iterator) ≡ find (turns_at l.st l.v.0) (loops_in l.st l.fn.f.0);
+  same : find (is_corner_at l.st l.v.0) (loops_in_left l.l-iterator) ≡ find (is_corner_at l.st l.v.0) (loops_in l.st l.fn.f.0);
 }

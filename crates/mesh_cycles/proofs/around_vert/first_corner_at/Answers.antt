@@ -2,10 +2,10 @@ use Rattle.std.proofs.Common.{rules, ◌≡◌, List, ap, ◌∙◌}
 use Rattle.std.specs.List.{find}
 use Rattle.raw_pool.specs.declared.pool.Slot.{Slot}
 use Rattle.link_ring.proofs.Members.{member_of}
-use Rattle.mesh_cycles.specs.Found.{loops_in, turns_at}
+use Rattle.mesh_cycles.specs.Found.{loops_in, is_corner_at}
 use Rattle.mesh_cycles.specs.Left.{loops_in_left}
 use Rattle.mesh_cycles.proofs.Around.{in_live}
-use Rattle.mesh_cycles.proofs.around_vert.first_turning.Goals as goal
+use Rattle.mesh_cycles.proofs.around_vert.first_corner_at.Goals as goal
 
 pub loop-l-init : goal.loop-l-init
 loop-l-init c =
@@ -14,5 +14,5 @@ loop-l-init c =
     record {
       ready = search rules;
       live = λ l h. in_live st c.requires.cycles c.args.f.0 l (member_of l h same);
-      same = ap (λ (ls : List Slot). find (turns_at st c.args.v.0) ls) same;
+      same = ap (λ (ls : List Slot). find (is_corner_at st c.args.v.0) ls) same;
     }

@@ -1,0 +1,38 @@
+use Rattle.std.proofs.Common.{◌==◌, false, Option, sym, ap, ◌∙◌}
+use Rattle.std.specs.Option.{option_map_or}
+use Rattle.std.proofs.lemmas.Iterator.Consumers.{YieldsList-from_first}
+use Rattle.raw_pool.specs.declared.pool.Slot.{Slot}
+use Rattle.mesh_cycles.specs.Found.{loops_around, is_corner_at}
+use Rattle.mesh_cycles.specs.Around.{loops_around_left}
+use Rattle.mesh_cycles.proofs.Around.{around_live}
+use Rattle.mesh_cycles.proofs.Leaders.{is_found, compared, leads_by, leads_own}
+use Rattle.mesh_cycles.proofs.around_vert.leads_around.Goals as goal
+
+pub loop_face-f-requires : goal.loop_face-f-requires
+loop_face-f-requires c = around_live c.args.st.now c.requires.cycles c.args.v.0 c.args.l c.requires.member
+
+pub own_or_first-requires-clause-live : goal.own_or_first-requires-clause-live
+own_or_first-requires-clause-live c = (
+  loops_around c.args.st.now c.args.v.0,
+  (YieldsList-from_first (λ l. l) loops_around_left (loops_around c.args.st.now c.args.v.0) c.loops_of_vert.ensures.items).runs,
+  around_live c.args.st.now c.requires.cycles c.args.v.0,
+)
+
+pub returns-then-eq : goal.returns-then-eq
+returns-then-eq c =
+    let st = c.args.st.now in
+    let own = c.first_corner_at-own in
+    c.if-eq.true
+    ∙ sym (leads_own st (is_corner_at st c.args.v.0) (loops_around st c.args.v.0) c.args.l c.loop_face-f.result own.result c.loop_face-f.ensures (c.has_face.ensures.0 c.if-not-has_face.false) own.ensures c.requires.member
+    (is_found own.result c.args.l (sym (compared own.result c.args.l) ∙ sym c.eq.ensures ∙ c.if-eq.true)))
+
+pub returns-else-eq : goal.returns-else-eq
+returns-else-eq c =
+    let st = c.args.st.now in
+    let own = c.first_corner_at-own in
+    let picked = c.own_or_first in
+    let runs = YieldsList-from_first (λ l. l) loops_around_left (loops_around st c.args.v.0) c.loops_of_vert.ensures.items in
+    c.eq-else-eq.ensures
+    ∙ compared picked.result c.args.l
+    ∙ ap (λ (o : Option Slot). option_map_or (λ (k : Slot). k.0 == c.args.l.0) o false) (picked.ensures (loops_around st c.args.v.0) runs.runs)
+    ∙ sym (leads_by st (is_corner_at st c.args.v.0) (loops_around st c.args.v.0) c.args.l c.loop_face-f.result own.result c.loop_face-f.ensures (c.has_face.ensures.0 c.if-not-has_face.false) own.ensures)
