@@ -1,6 +1,7 @@
 -- What a draft keeps beside its records, through each of its changes.
-use Rattle.std.proofs.Common.{◌≡◌, ℕ, ◌+◌, ◌<◌, ◌≤◌, Bool, true, false, not, cond, ◌||◌, ◌==◌, List, [], ◌∷◌, length, map, refl, sym, ap, ◌∙◌, arith, Option, Some, None}
+use Rattle.std.proofs.Common.{◌≡◌, ℕ, ◌+◌, ◌<◌, ◌≤◌, Bool, true, not, cond, ◌||◌, ◌==◌, List, [], ◌∷◌, length, map, refl, sym, ap, ◌∙◌, arith, Option, Some, None}
 use Rattle.std.specs.List.{All, list_any, enumerate_from}
+use Rattle.std.proofs.Math.Bool.{or-false}
 use Rattle.std.proofs.lemmas.List.Folds.{list_any-append}
 use Rattle.mesh_model.specs.Table.{IsThere, Each, passes, kept, kept_names, only_if}
 use Rattle.mesh_model.specs.NameSet.{is_in}
@@ -49,10 +50,6 @@ pub ring_below : (c : Complex) (vs : List VertName) → 3 ≤ length vs → are_
 ring_below c vs least distinct there k d less =
     there-below (corners_along c.edges (sides vs)).0 _ (corners_linked c.verts c.edges (corners_along c.edges (sides vs)).0 (sides vs) (AreSides-sides c.verts vs least distinct there) (λ n x h. h) k d less).edge
 
-or_none : (b : Bool) → (b || false) ≡ b
-or_none true = refl
-or_none false = refl
-
 -- a face more, whose edges were put into the flags
 pub AreTables-with_ring : (c : Complex) (flags wider marked : List Bool) (count : ℕ) (vs : List VertName) → length c.faces < 1048576 → length (with_ring c vs).edges ≤ 2097152 → corner_sum c.faces + length vs ≤ 4194304 → 3 ≤ length vs → length vs ≤ 4096
     → are_distinct vs ≡ true → All (λ (v : VertName). IsThere c.verts v.0) vs
@@ -65,7 +62,7 @@ AreTables-with_ring c flags wider marked count vs few_faces few_edges few_corner
       valid = IsValid-with_ring c vs few_faces few_edges few_corners least most distinct there h.valid;
       used = λ e.
           inserted e ∙ ap (λ (b : Bool). b || list_any (λ (k : CornerRec). k.edge.0 == e) ring) (members e ∙ h.used e)
-          ∙ ap (λ (b : Bool). list_any (passes (uses_edge e)) c.faces || b) (sym (or_none (list_any (λ (k : CornerRec). k.edge.0 == e) ring)))
+          ∙ ap (λ (b : Bool). list_any (passes (uses_edge e)) c.faces || b) (sym (or-false (list_any (λ (k : CornerRec). k.edge.0 == e) ring)))
           ∙ sym (list_any-append (passes (uses_edge e)) c.faces (Some (record { corners = ring }) ∷ []));
       wide = wide;
       corners = rw (corner_sum-push c.faces (record { corners = ring }), long) (ap (λ (n : ℕ). n + length vs) h.corners);

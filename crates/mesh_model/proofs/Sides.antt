@@ -1,9 +1,9 @@
 -- The corners along the sides of a ring: their edges join the sides, and what was there stays.
-use Rattle.std.proofs.Common.{◌≡◌, ◌≢◌, ℕ, suc, ◌+◌, ◌≤◌, Bool, true, false, not, ◌&&◌, ◌||◌, eqb, List, [], ◌∷◌, ◌++◌, length, map, take, drop, refl, sym, ap, ◌∙◌, arith, Option, Some, None, inl, inr, true≢false}
+use Rattle.std.proofs.Common.{◌≡◌, ◌≢◌, ℕ, suc, ◌+◌, ◌≤◌, Bool, true, false, not, ◌&&◌, ◌||◌, eqb, List, [], ◌∷◌, ◌++◌, length, map, take, drop, refl, sym, ap, ◌∙◌, arith, Option, Some, None, inl, inr}
 use Rattle.std.specs.List.{All, list_all, zip}
 use Rattle.std.proofs.lemmas.List.Quantifiers.{position-Some}
 use Rattle.std.proofs.lemmas.List.Elements.{All-cons, All-head, All-tail}
-use Rattle.std.proofs.lemmas.Bool.{eq-eqb}
+use Rattle.std.proofs.lemmas.Bool.{and_parts, eq-eqb, eqb-false, not-true, not_from_false, or_parts}
 use Rattle.mesh_model.specs.Table.{at, IsThere, Each, passes}
 use Rattle.mesh_model.specs.Complex.{verts_of}
 use Rattle.mesh_model.specs.Incidence.{joins, edge_joining}
@@ -27,42 +27,26 @@ abbrev pub AreSides : List (Option VertRec) → List (VertName × VertName) → 
 AreSides verts [] = Unit {0}
 AreSides verts (s ∷ ss) = IsSide verts s × AreSides verts ss
 
-or_left : (a b : Bool) → not (a || b) ≡ true → a ≡ false
-or_left true b h = absurd (true≢false (sym h))
-or_left false b h = refl
-
-or_right : (a b : Bool) → not (a || b) ≡ true → not b ≡ true
-or_right true b h = absurd (true≢false (sym h))
-or_right false b h = h
-
-pub and_left : (a b : Bool) → (a && b) ≡ true → a ≡ true
-and_left true b h = refl
-and_left false b h = h
-
-pub and_right : (a b : Bool) → (a && b) ≡ true → b ≡ true
-and_right true b h = h
-and_right false b h = absurd (true≢false (sym h))
-
-differ_from : (m n : ℕ) → eqb m n ≡ false → m ≢ n
-differ_from m n h same = true≢false (sym (eq-eqb m n same) ∙ h)
-
 differ_to : (m n : ℕ) → eqb m n ≡ false → n ≢ m
-differ_to m n h same = differ_from m n h (sym same)
+differ_to m n h same = eqb-false m n h (sym same)
 
 -- the sides from a vertex on, back to the first of the ring
 run : (verts : List (Option VertRec)) (first v : VertName) (us : List VertName) → IsThere verts first.0 → All (λ (x : VertName). IsThere verts x.0) (v ∷ us)
     → are_distinct (v ∷ us) ≡ true → not (is_among (v ∷ us) first.0) ≡ true → AreSides verts (zip (v ∷ us) (us ++ first ∷ []))
 run verts first v [] here there distinct apart =
-    (record { a = All-head (λ (x : VertName). IsThere verts x.0) v [] there; b = here; differ = differ_from v.0 first.0 (or_left (eqb v.0 first.0) false apart) }, tt)
+    let other = or_parts (eqb v.0 first.0) false (not-true (is_among (v ∷ []) first.0) apart) in
+    (record { a = All-head (λ (x : VertName). IsThere verts x.0) v [] there; b = here; differ = eqb-false v.0 first.0 other.0 }, tt)
 run verts first v (u ∷ us) here there distinct apart =
     let rest = All-tail (λ (x : VertName). IsThere verts x.0) v (u ∷ us) there in
-    let fresh = and_left (not (is_among (u ∷ us) v.0)) (are_distinct (u ∷ us)) distinct in (
+    let parts = and_parts (not (is_among (u ∷ us) v.0)) (are_distinct (u ∷ us)) distinct in
+    let next = or_parts (eqb u.0 v.0) (is_among us v.0) (not-true (is_among (u ∷ us) v.0) parts.0) in
+    let others = or_parts (eqb v.0 first.0) (is_among (u ∷ us) first.0) (not-true (is_among (v ∷ u ∷ us) first.0) apart) in (
       record {
         a = All-head (λ (x : VertName). IsThere verts x.0) v (u ∷ us) there;
         b = All-head (λ (x : VertName). IsThere verts x.0) u us rest;
-        differ = differ_to u.0 v.0 (or_left (eqb u.0 v.0) (is_among us v.0) fresh);
+        differ = differ_to u.0 v.0 next.0;
       },
-      run verts first u us here rest (and_right (not (is_among (u ∷ us) v.0)) (are_distinct (u ∷ us)) distinct) (or_right (eqb v.0 first.0) (is_among (u ∷ us) first.0) apart),
+      run verts first u us here rest parts.1 (not_from_false (is_among (u ∷ us) first.0) others.1),
     )
 
 pub AreSides-sides : (verts : List (Option VertRec)) (vs : List VertName) → 3 ≤ length vs → are_distinct vs ≡ true → All (λ (x : VertName). IsThere verts x.0) vs → AreSides verts (sides vs)
@@ -71,9 +55,10 @@ AreSides-sides verts (v ∷ []) long distinct there = absurd (omega arith)
 AreSides-sides verts (v ∷ w ∷ us) long distinct there =
     let rest = All-tail (λ (x : VertName). IsThere verts x.0) v (w ∷ us) there in
     let here = All-head (λ (x : VertName). IsThere verts x.0) v (w ∷ us) there in
-    let fresh = and_left (not (is_among (w ∷ us) v.0)) (are_distinct (w ∷ us)) distinct in (
-      record { a = here; b = All-head (λ (x : VertName). IsThere verts x.0) w us rest; differ = differ_to w.0 v.0 (or_left (eqb w.0 v.0) (is_among us v.0) fresh) },
-      run verts v w us here rest (and_right (not (is_among (w ∷ us) v.0)) (are_distinct (w ∷ us)) distinct) fresh,
+    let parts = and_parts (not (is_among (w ∷ us) v.0)) (are_distinct (w ∷ us)) distinct in
+    let next = or_parts (eqb w.0 v.0) (is_among us v.0) (not-true (is_among (w ∷ us) v.0) parts.0) in (
+      record { a = here; b = All-head (λ (x : VertName). IsThere verts x.0) w us rest; differ = differ_to w.0 v.0 next.0 },
+      run verts v w us here rest parts.1 parts.0,
     )
 
 -- EDGES THAT ARE FOUND OR MADE

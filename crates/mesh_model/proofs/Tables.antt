@@ -3,12 +3,9 @@ use Rattle.std.proofs.Common.{◌≡◌, ℕ, zero, suc, ◌+◌, ◌<◌, Bool,
 use Rattle.std.specs.List.{enumerate_from, slice_get}
 use Rattle.std.proofs.lemmas.List.{length-map, take_more, get_or_append_left}
 use Rattle.std.proofs.Math.Seq.{get_or-append_seam}
+use Rattle.std.proofs.lemmas.List.FromFn.{length-enumerate_from}
 use Rattle.std.proofs.lemmas.Option.{slice_get_within, get_or_from_slice_get}
 use Rattle.mesh_model.specs.Table.{at, IsThere, kept, kept_names, only_if, passes}
-
-length-enumerate_from : {X : Type 0} (n : ℕ) (xs : List X) → length (enumerate_from n xs) ≡ length xs
-length-enumerate_from n [] = refl
-length-enumerate_from n (x ∷ xs) = ap (λ (k : ℕ). suc k) (length-enumerate_from (n + 1) xs)
 
 pub length-kept : {X : Type 0} (test : X → Bool) (table : List (Option X)) → length (kept test table) ≡ length table
 length-kept test table = length-map table (only_if test)

@@ -1,8 +1,8 @@
 -- Each change keeps a complex valid and simple.
-use Rattle.std.proofs.Common.{◌≡◌, ◌≢◌, ℕ, zero, suc, ◌+◌, ◌<◌, ◌≤◌, Bool, true, false, not, cond, ◌&&◌, ◌||◌, eqb, List, [], ◌∷◌, ◌++◌, length, get_or, take, drop, refl, sym, ap, ◌∙◌, arith, lit≤, Option, Some, None, inl, inr, true≢false}
+use Rattle.std.proofs.Common.{◌≡◌, ◌≢◌, ℕ, zero, suc, ◌+◌, ◌<◌, ◌≤◌, Bool, true, false, not, cond, ◌&&◌, ◌||◌, eqb, List, [], ◌∷◌, ◌++◌, length, get_or, take, drop, refl, sym, ap, ◌∙◌, arith, Option, Some, None, inl, inr, true≢false}
 use Rattle.std.specs.List.{All, list_all, list_any, zip}
 use Rattle.std.proofs.lemmas.List.{length_push, length-map}
-use Rattle.std.proofs.lemmas.Bool.{eqb-true}
+use Rattle.std.proofs.lemmas.Bool.{and_from, and_parts, eqb-true, not-true, not_from_false, or_parts}
 use Rattle.std.proofs.lemmas.List.Sums.{sum_by-append, sum_by-cons}
 use Rattle.std.proofs.lemmas.List.Elements.{All-cons, All-head, All-tail}
 use Rattle.std.proofs.lemmas.List.Folds.{list_all-append}
@@ -10,37 +10,19 @@ use Rattle.std.specs.Cmp.{nat_eq_equiv}
 use Rattle.std.specs.List.{position_from}
 use Rattle.std.proofs.lemmas.Iterator.Adapters.{position_from-zero}
 use Rattle.mesh_model.specs.Table.{at, IsThere, Each, passes, kept, kept_names, only_if}
-use Rattle.mesh_model.specs.Complex.{Complex, no_complex, corners_of, corner_sum, verts_of}
+use Rattle.mesh_model.specs.Complex.{Complex, corners_of, corner_sum, verts_of}
 use Rattle.mesh_model.specs.Incidence.{joins, edge_joining}
 use Rattle.mesh_model.specs.Making.{with_vert, with_ring, or_made, edge_between, sides, corners_along}
 use Rattle.mesh_model.specs.Deleting.{is_among, has_end_among, has_corner_among, without_verts}
 use Rattle.mesh_model.specs.Valid.{is_on_grid, IsEdgeLinked, IsCornerLinked, IsFaceLinked, are_distinct, is_along, IsRing, IsValid, IsSimple}
 use Rattle.mesh_model.proofs.Tables.{Extends, Extends-append, there-Extends, passes-Extends, at-append, at-below, there_passes, there_from, stands, at-kept, at-kept_names, only_if-Some, only_if-pass, length-kept, length-kept_names}
 use Rattle.mesh_model.proofs.Rings.{length-sides}
-use Rattle.mesh_model.proofs.Sides.{length-corners_along, AreSides-sides, Extends-corners_along, Extends-edge_between, closed-corners_along, verts-corners_along, firsts-sides, linked-corners_along, linked-edge_between, corners_linked, and_left, and_right}
+use Rattle.mesh_model.proofs.Sides.{length-corners_along, AreSides-sides, Extends-corners_along, Extends-edge_between, closed-corners_along, verts-corners_along, firsts-sides, linked-corners_along, linked-edge_between, corners_linked}
 use Rattle.mesh_model.specs.declared.names.VertName.{VertName}
 use Rattle.mesh_model.specs.declared.records.VertRec.{VertRec}
 use Rattle.mesh_model.specs.declared.records.EdgeRec.{EdgeRec}
 use Rattle.mesh_model.specs.declared.records.CornerRec.{CornerRec}
 use Rattle.mesh_model.specs.declared.records.FaceRec.{FaceRec}
-
-first : (a b : Bool) → not (a || b) ≡ true → not a ≡ true
-first true b h = h
-first false b h = refl
-
-later : (a b : Bool) → not (a || b) ≡ true → not b ≡ true
-later true b h = absurd (true≢false (sym h))
-later false b h = h
-
--- NOTHING THERE
-
-pub IsValid-no_complex : IsValid no_complex
-IsValid-no_complex = record {
-  linked = record { edges = λ n e there. absurd (cc); faces = λ n f there. absurd (cc) };
-  points = λ n r there. absurd (cc);
-  rings = λ n f there. absurd (cc);
-  limits = record { verts = lit≤ tt; edges = lit≤ tt; faces = lit≤ tt; corners = lit≤ tt };
-}
 
 -- WHAT STAYS WHEN TABLES GROW
 
@@ -56,8 +38,9 @@ linked_face_grows verts verts' edges edges' more_v more_e f h = record {
 along_grows : (edges edges' : List (Option EdgeRec)) → Extends edges edges' → (ps : List (CornerRec × (VertName × VertName))) → list_all (is_along edges) ps ≡ true → list_all (is_along edges') ps ≡ true
 along_grows edges edges' more [] h = refl
 along_grows edges edges' more (p ∷ ps) h =
-    let here = passes-Extends (joins p.1.0.0 p.1.1.0) edges edges' more p.0.edge.0 (and_left (is_along edges p) (list_all (is_along edges) ps) h) in
-    ap (λ (b : Bool). b && list_all (is_along edges') ps) here ∙ along_grows edges edges' more ps (and_right (is_along edges p) (list_all (is_along edges) ps) h)
+    let all = and_parts (is_along edges p) (list_all (is_along edges) ps) h in
+    let here = passes-Extends (joins p.1.0.0 p.1.1.0) edges edges' more p.0.edge.0 all.0 in
+    ap (λ (b : Bool). b && list_all (is_along edges') ps) here ∙ along_grows edges edges' more ps all.1
 
 pub ring_grows : (edges edges' : List (Option EdgeRec)) → Extends edges edges' → (f : FaceRec) → IsRing edges f → IsRing edges' f
 ring_grows edges edges' more f h = record { least = h.least; most = h.most; distinct = h.distinct; closed = along_grows edges edges' more _ h.closed }
@@ -221,20 +204,19 @@ spared vs v = not (is_among vs v.0)
 abbrev spares_side : List VertName → VertName × VertName → Bool
 spares_side vs s = spared vs s.0 && spared vs s.1
 
-both : (a b : Bool) → a ≡ true → b ≡ true → (a && b) ≡ true
-both a b p q = ap (λ (x : Bool). x && b) p ∙ q
-
 spares_zip : (vs us ws : List VertName) → list_all (spared vs) us ≡ true → list_all (spared vs) ws ≡ true → list_all (spares_side vs) (zip us ws) ≡ true
 spares_zip vs [] ws p q = refl
 spares_zip vs (u ∷ us) [] p q = refl
 spares_zip vs (u ∷ us) (w ∷ ws) p q =
-    both (spared vs u && spared vs w) (list_all (spares_side vs) (zip us ws)) (both (spared vs u) (spared vs w) (and_left (spared vs u) (list_all (spared vs) us) p) (and_left (spared vs w) (list_all (spared vs) ws) q))
-    (spares_zip vs us ws (and_right (spared vs u) (list_all (spared vs) us) p) (and_right (spared vs w) (list_all (spared vs) ws) q))
+    let us_are = and_parts (spared vs u) (list_all (spared vs) us) p in
+    let ws_are = and_parts (spared vs w) (list_all (spared vs) ws) q in
+    and_from (spared vs u && spared vs w) (list_all (spares_side vs) (zip us ws)) (and_from (spared vs u) (spared vs w) us_are.0 ws_are.0) (spares_zip vs us ws us_are.1 ws_are.1)
 
 spares_turned : (vs us : List VertName) → list_all (spared vs) us ≡ true → list_all (spared vs) (drop 1 us ++ take 1 us) ≡ true
 spares_turned vs [] p = refl
 spares_turned vs (u ∷ us) p =
-    list_all-append (spared vs) us (u ∷ []) ∙ both (list_all (spared vs) us) (spared vs u && true) (and_right (spared vs u) (list_all (spared vs) us) p) (both (spared vs u) true (and_left (spared vs u) (list_all (spared vs) us) p) refl)
+    let all = and_parts (spared vs u) (list_all (spared vs) us) p in
+    list_all-append (spared vs) us (u ∷ []) ∙ and_from (list_all (spared vs) us) (spared vs u && true) all.1 (and_from (spared vs u) true all.0 refl)
 
 spares_sides : (vs us : List VertName) → list_all (spared vs) us ≡ true → list_all (spares_side vs) (sides us) ≡ true
 spares_sides vs us p = spares_zip vs us (drop 1 us ++ take 1 us) p (spares_turned vs us p)
@@ -258,14 +240,10 @@ end_b vs a b v w false q true true ep eq er et h out_v out_w = ap (is_among vs) 
 end_b vs a b v w false q true false ep eq er et h out_v out_w = absurd (true≢false (sym h))
 end_b vs a b v w false q false t ep eq er et h out_v out_w = absurd (true≢false (sym h))
 
-not_true : (b : Bool) → not b ≡ true → b ≡ false
-not_true true h = absurd (true≢false (sym h))
-not_true false h = refl
-
 edge_spared : (vs : List VertName) (v w : VertName) (e : EdgeRec) → joins v.0 w.0 e ≡ true → spared vs v ≡ true → spared vs w ≡ true → not (has_end_among vs e) ≡ true
 edge_spared vs v w e h out_v out_w =
-    let a = end_a vs e.a.0 e.b.0 v.0 w.0 _ _ _ _ refl refl refl refl h (not_true (is_among vs v.0) out_v) (not_true (is_among vs w.0) out_w) in
-    let b = end_b vs e.a.0 e.b.0 v.0 w.0 _ _ _ _ refl refl refl refl h (not_true (is_among vs v.0) out_v) (not_true (is_among vs w.0) out_w) in
+    let a = end_a vs e.a.0 e.b.0 v.0 w.0 _ _ _ _ refl refl refl refl h (not-true (is_among vs v.0) out_v) (not-true (is_among vs w.0) out_w) in
+    let b = end_b vs e.a.0 e.b.0 v.0 w.0 _ _ _ _ refl refl refl refl h (not-true (is_among vs v.0) out_v) (not-true (is_among vs w.0) out_w) in
     ap (λ (x : Bool). not (x || is_among vs e.b.0)) a ∙ ap not b
 
 -- the edge along a side between vertices that stay, stays
@@ -273,7 +251,8 @@ along_kept : (vs : List VertName) (edges : List (Option EdgeRec)) (p : CornerRec
 along_kept vs edges p along out =
     let it = stands (at edges p.0.edge.0) (there_passes (joins p.1.0.0 p.1.1.0) (at edges p.0.edge.0) along) in
     let joins_them : joins p.1.0.0 p.1.1.0 it.0 ≡ true = sym (ap (passes (joins p.1.0.0 p.1.1.0)) it.1) ∙ along in
-    let stays = edge_spared vs p.1.0 p.1.1 it.0 joins_them (and_left (spared vs p.1.0) (spared vs p.1.1) out) (and_right (spared vs p.1.0) (spared vs p.1.1) out) in
+    let outs = and_parts (spared vs p.1.0) (spared vs p.1.1) out in
+    let stays = edge_spared vs p.1.0 p.1.1 it.0 joins_them outs.0 outs.1 in
     ap (passes (joins p.1.0.0 p.1.1.0)) (at-kept (λ e. not (has_end_among vs e)) edges p.0.edge.0 ∙ only_if-pass (λ e. not (has_end_among vs e)) (at edges p.0.edge.0) it.0 it.1 stays) ∙ joins_them
 
 closed_kept : (vs : List VertName) (edges : List (Option EdgeRec)) (ks : List CornerRec) (ss : List (VertName × VertName)) → list_all (is_along edges) (zip ks ss) ≡ true → list_all (spares_side vs) ss ≡ true
@@ -281,22 +260,26 @@ closed_kept : (vs : List VertName) (edges : List (Option EdgeRec)) (ks : List Co
 closed_kept vs edges [] ss along out = refl
 closed_kept vs edges (k ∷ ks) [] along out = refl
 closed_kept vs edges (k ∷ ks) (s ∷ ss) along out =
-    both (is_along (kept (λ e. not (has_end_among vs e)) edges) (k, s)) (list_all (is_along (kept (λ e. not (has_end_among vs e)) edges)) (zip ks ss))
-    (along_kept vs edges (k, s) (and_left (is_along edges (k, s)) (list_all (is_along edges) (zip ks ss)) along) (and_left (spares_side vs s) (list_all (spares_side vs) ss) out))
-    (closed_kept vs edges ks ss (and_right (is_along edges (k, s)) (list_all (is_along edges) (zip ks ss)) along) (and_right (spares_side vs s) (list_all (spares_side vs) ss) out))
+    let alongs = and_parts (is_along edges (k, s)) (list_all (is_along edges) (zip ks ss)) along in
+    let outs = and_parts (spares_side vs s) (list_all (spares_side vs) ss) out in
+    and_from (is_along (kept (λ e. not (has_end_among vs e)) edges) (k, s)) (list_all (is_along (kept (λ e. not (has_end_among vs e)) edges)) (zip ks ss))
+    (along_kept vs edges (k, s) alongs.0 outs.0) (closed_kept vs edges ks ss alongs.1 outs.1)
 
 -- no corner of a face that stays is at one of the vertices
 face_spared : (vs : List VertName) (ks : List CornerRec) → not (list_any (λ (k : CornerRec). is_among vs k.vert.0) ks) ≡ true → list_all (spared vs) (verts_of ks) ≡ true
 face_spared vs [] h = refl
-face_spared vs (k ∷ ks) h = both (spared vs k.vert) (list_all (spared vs) (verts_of ks)) (first (is_among vs k.vert.0) _ h) (face_spared vs ks (later (is_among vs k.vert.0) _ h))
+face_spared vs (k ∷ ks) h =
+    let among : CornerRec → Bool = λ k. is_among vs k.vert.0 in
+    let out = or_parts (among k) (list_any among ks) (not-true (list_any among (k ∷ ks)) h) in
+    and_from (spared vs k.vert) (list_all (spared vs) (verts_of ks)) (not_from_false (among k) out.0) (face_spared vs ks (not_from_false (list_any among ks) out.1))
 
 -- the edges along a closed ring are there
 edges_there : (edges : List (Option EdgeRec)) (ks : List CornerRec) (ss : List (VertName × VertName)) → length ks ≤ length ss → list_all (is_along edges) (zip ks ss) ≡ true → All (λ (k : CornerRec). IsThere edges k.edge.0) ks
 edges_there edges [] ss h along = λ k d less. absurd (omega arith)
 edges_there edges (k ∷ ks) [] h along = absurd (omega arith)
 edges_there edges (k ∷ ks) (s ∷ ss) h along =
-    All-cons (λ (k : CornerRec). IsThere edges k.edge.0) k ks (there_passes (joins s.0.0 s.1.0) (at edges k.edge.0) (and_left (is_along edges (k, s)) (list_all (is_along edges) (zip ks ss)) along))
-    (edges_there edges ks ss (omega arith) (and_right (is_along edges (k, s)) (list_all (is_along edges) (zip ks ss)) along))
+    let alongs = and_parts (is_along edges (k, s)) (list_all (is_along edges) (zip ks ss)) along in
+    All-cons (λ (k : CornerRec). IsThere edges k.edge.0) k ks (there_passes (joins s.0.0 s.1.0) (at edges k.edge.0) alongs.0) (edges_there edges ks ss (omega arith) alongs.1)
 
 -- a vertex that is spared stays
 vert_kept : (vs : List VertName) (verts : List (Option VertRec)) (n : ℕ) → IsThere verts n → not (is_among vs n) ≡ true → IsThere (kept_names (λ n. not (is_among vs n)) verts) n
@@ -308,9 +291,10 @@ verts_there : (vs : List VertName) (verts : List (Option VertRec)) (edges : List
     → All (λ (k : CornerRec). IsThere (kept_names (λ n. not (is_among vs n)) verts) k.vert.0) ks
 verts_there vs verts edges [] linked out = λ k d less. absurd (omega arith)
 verts_there vs verts edges (k ∷ ks) linked out =
+    let outs = and_parts (spared vs k.vert) (list_all (spared vs) (verts_of ks)) out in
     All-cons (λ (k : CornerRec). IsThere (kept_names (λ n. not (is_among vs n)) verts) k.vert.0) k ks
-    (vert_kept vs verts k.vert.0 (All-head (IsCornerLinked verts edges) k ks linked).vert (and_left (spared vs k.vert) (list_all (spared vs) (verts_of ks)) out))
-    (verts_there vs verts edges ks (All-tail (IsCornerLinked verts edges) k ks linked) (and_right (spared vs k.vert) (list_all (spared vs) (verts_of ks)) out))
+    (vert_kept vs verts k.vert.0 (All-head (IsCornerLinked verts edges) k ks linked).vert outs.0)
+    (verts_there vs verts edges ks (All-tail (IsCornerLinked verts edges) k ks linked) outs.1)
 
 corner_sum-only_if : (test : FaceRec → Bool) (f : FaceRec) (b : Bool) → length (corners_of (cond b (Some f) None)) ≤ length f.corners
 corner_sum-only_if test f true = omega arith
@@ -349,9 +333,10 @@ IsValid-without_verts c vs h =
         edges = λ n e at_n.
             let was = only_if-Some spares_edge (at c.edges n) e (sym (at-kept spares_edge c.edges n) ∙ at_n) in
             let old = h.linked.edges n e was.0 in
+            let out = or_parts (is_among vs e.a.0) (is_among vs e.b.0) (not-true (has_end_among vs e) was.1) in
             record {
-              a = vert_kept vs c.verts e.a.0 old.a (first (is_among vs e.a.0) (is_among vs e.b.0) was.1);
-              b = vert_kept vs c.verts e.b.0 old.b (later (is_among vs e.a.0) (is_among vs e.b.0) was.1);
+              a = vert_kept vs c.verts e.a.0 old.a (not_from_false (is_among vs e.a.0) out.0);
+              b = vert_kept vs c.verts e.b.0 old.b (not_from_false (is_among vs e.b.0) out.1);
               differ = old.differ;
             };
         faces = λ n f at_n.

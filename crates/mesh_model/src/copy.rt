@@ -11,7 +11,7 @@ use crate::shape::Shape;
 use std::alloc::Global;
 
 // The table of vertices.
-pub fn verts_of<S: Shape>(
+pub(crate) fn verts_of<S: Shape>(
     alloc: Global,
     shape: &S,
     count: u32,
@@ -39,7 +39,7 @@ fn vert_at<S: Shape>(shape: &S, v: VertName) -> Option<VertRec>
 }
 
 // The table of edges.
-pub fn edges_of<S: Shape>(
+pub(crate) fn edges_of<S: Shape>(
     alloc: Global,
     shape: &S,
     count: u32,
@@ -66,7 +66,7 @@ fn edge_at<S: Shape>(shape: &S, e: EdgeName) -> Option<EdgeRec>
 }
 
 // The table of faces.
-pub fn faces_of<S: Shape>(
+pub(crate) fn faces_of<S: Shape>(
     alloc: Global,
     shape: &S,
     count: u32,

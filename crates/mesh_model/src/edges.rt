@@ -12,7 +12,7 @@ use crate::records::{CornerRec, Corners, EdgeRec};
 use std::alloc::Global;
 
 // The corners along the sides of a ring, each with its edge. The edges that are missing are made at the end.
-pub fn ring_in(
+pub(crate) fn ring_in(
     alloc: Global,
     edges: &mut Vec<Option<EdgeRec>>,
     corners: &[DraftCorner],
@@ -58,7 +58,7 @@ fn ring_along(
 }
 
 // The least edge that joins two vertices, made at the end if there is none.
-pub fn edge_in(
+pub(crate) fn edge_in(
     edges: &mut Vec<Option<EdgeRec>>,
     a: VertName,
     b: VertName,

@@ -5,7 +5,7 @@ ghost use Rattle.std.specs.List.{position};
 ghost use Rattle.mesh_model.specs.Table.{at, least_from};
 
 // Whether something stands at a name.
-pub fn is_there<X>(table: &[Option<X>], name: u32) -> bool
+pub(crate) fn is_there<X>(table: &[Option<X>], name: u32) -> bool
     ensures { result ≡ is_some (at table.now name) }
 {
     match table.get(name as usize) {
@@ -15,7 +15,7 @@ pub fn is_there<X>(table: &[Option<X>], name: u32) -> bool
 }
 
 // The least name not below a number at which something stands.
-pub fn first_from<X>(table: &[Option<X>], least: u32) -> Option<u32>
+pub(crate) fn first_from<X>(table: &[Option<X>], least: u32) -> Option<u32>
     requires { length table.now < 2 ^ 32 }
     ensures { result ≡ least_from table.now least }
 {

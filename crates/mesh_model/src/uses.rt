@@ -13,7 +13,7 @@ use crate::records::{CornerRec, FaceRec};
 use std::alloc::Global;
 
 // The edges that some faces use, with room for the names below a width.
-pub fn edges_used(
+pub(crate) fn edges_used(
     alloc: Global,
     faces: &[Option<FaceRec>],
     width: usize,
@@ -43,7 +43,7 @@ fn insert_face(set: &mut NameSet, entry: &Option<FaceRec>)
 }
 
 // Puts the edges of some corners into the set.
-pub fn insert_edges(set: &mut NameSet, corners: &[CornerRec])
+pub(crate) fn insert_edges(set: &mut NameSet, corners: &[CornerRec])
     requires { All (λ k. k.edge.0 < length set.old) corners.now }
     ensures members { (e : ℕ) → is_in set.new e ≡ (is_in set.old e || list_any (λ k. k.edge.0 == e) corners.now) }
     ensures wide { length set.new ≡ length set.old }
@@ -54,7 +54,7 @@ pub fn insert_edges(set: &mut NameSet, corners: &[CornerRec])
 }
 
 // The number of live corners.
-pub fn corner_sum(faces: &[Option<FaceRec>]) -> u32
+pub(crate) fn corner_sum(faces: &[Option<FaceRec>]) -> u32
     requires { corner_sum faces.now < 2 ^ 32 }
     ensures { result ≡ corner_sum faces.now }
 {

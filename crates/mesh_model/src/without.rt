@@ -13,7 +13,7 @@ use crate::records::{EdgeRec, FaceRec, VertRec};
 use std::alloc::Global;
 
 // Some vertices as a set, each below a width.
-pub fn set_of(alloc: Global, verts: &[VertName], width: usize) -> Result<NameSet, NoMemory>
+pub(crate) fn set_of(alloc: Global, verts: &[VertName], width: usize) -> Result<NameSet, NoMemory>
     requires { All (λ v. v.0 < width) verts.now }
     ensures { IfOk result (λ set. (n : ℕ) → is_in set n ≡ is_among verts.now n) }
 {
@@ -26,7 +26,7 @@ pub fn set_of(alloc: Global, verts: &[VertName], width: usize) -> Result<NameSet
 }
 
 // The vertices that aren't in a set.
-pub fn verts_kept(
+pub(crate) fn verts_kept(
     alloc: Global,
     table: &[Option<VertRec>],
     gone: &NameSet,
@@ -44,7 +44,7 @@ pub fn verts_kept(
 }
 
 // The edges with no end in a set of vertices.
-pub fn edges_kept(
+pub(crate) fn edges_kept(
     alloc: Global,
     table: &[Option<EdgeRec>],
     gone: &NameSet,
@@ -64,7 +64,7 @@ fn edge_kept(entry: Option<EdgeRec>, gone: &NameSet) -> Option<EdgeRec>
 }
 
 // The faces with no corner at a vertex of a set.
-pub fn faces_kept(
+pub(crate) fn faces_kept(
     alloc: Global,
     table: &[Option<FaceRec>],
     gone: &NameSet,
