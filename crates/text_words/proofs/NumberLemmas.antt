@@ -1,7 +1,7 @@
 -- Lemmas on numbers and their digits.
 use Rattle.std.proofs.Common.{◌≡◌, ◌≤◌, ◌<◌, ◌^◌, ◌+◌, ◌-◌, ◌*◌, ℕ, suc, ℤ, pos, negsuc, neg_ℤ, ◌<ℤ◌, true, List, [], ◌∷◌, ◌++◌, length, length-append, arith, rules, refl, ap, ◌∙◌, Some, None, Bool, false, cond, ◌&&◌, ◌==◌, nat_lt, nat_le, take, get_or}
 use Rattle.std.proofs.Math.Nat.{pow-le-pow_right, mul_assoc}
-use Rattle.std.proofs.lemmas.Bool.{lt-ltb, le-leb, eqb-true}
+use Rattle.std.proofs.lemmas.Bool.{and_parts, lt-ltb, le-leb, eqb-true}
 use Rattle.std.proofs.lemmas.List.{take_more}
 use Rattle.std.proofs.lemmas.Grind.{pow_more}
 use Rattle.std.proofs.lemmas.Fmt.{digits_decimal, digits_value-decimal, length-decimal-le, decimal_nonempty}
@@ -67,12 +67,8 @@ digit_no_minus b true e digit =
     let same : b ≡ 45 = eqb-true b 45 e in
     let never : is_digit 45 ≡ true = rw same at digit in cc
 
-both : (p q : Bool) → (p && q) ≡ true → p ≡ true
-both true q e = refl
-both false q e = e
-
 first_digit : (b : ℕ) (ds : List ℕ) → list_all is_digit (b ∷ ds) ≡ true → is_digit b ≡ true
-first_digit b ds digits = both (is_digit b) (list_all is_digit ds) digits
+first_digit b ds digits = (and_parts (is_digit b) (list_all is_digit ds) digits).0
 
 -- digits without a minus
 unsigned : (most : ℕ) (ds : List ℕ) (n : ℕ) → 0 < length ds → list_all is_digit ds ≡ true → natural most ds ≡ Some n → integer most ds ≡ Some (pos n)
