@@ -1,10 +1,10 @@
 -- Lemmas on marks and on distinct vertices.
-use Rattle.std.proofs.Common.{◌≡◌, ◌≢◌, ℕ, zero, suc, ◌+◌, ◌<◌, ◌≤◌, Bool, true, false, not, ◌&&◌, ◌||◌, eqb, List, [], ◌∷◌, ◌++◌, length, get_or, map, take, drop, set, refl, sym, ap, ◌∙◌, ◌⊎◌, inl, inr, arith, true≢false}
-use Rattle.std.specs.List.{All, list_any}
+use Rattle.std.proofs.Common.{◌≡◌, ◌≢◌, ℕ, ◌+◌, ◌<◌, Bool, true, false, not, ◌&&◌, ◌||◌, eqb, List, [], ◌∷◌, ◌++◌, length, get_or, map, take, drop, set, refl, sym, ap, ◌∙◌, inl, inr, arith, true≢false}
 use Rattle.std.specs.Cmp.{nat_eq_equiv}
+use Rattle.std.proofs.Math.Bool.{or-false, or-true, and-false}
 use Rattle.std.proofs.lemmas.List.{take_more, get_or-map, length-map, get_or-set_same, get_or-set_other, take-append-drop, length-set}
 use Rattle.std.proofs.lemmas.List.Folds.{list_any-append}
-use Rattle.std.proofs.lemmas.Bool.{eqb-true, eq-eqb}
+use Rattle.std.proofs.lemmas.Bool.{eq-eqb}
 use Rattle.std.proofs.lemmas.Bool.Decides.{eqb_tells}
 use Rattle.mesh_model.specs.Deleting.{is_among}
 use Rattle.mesh_model.specs.Valid.{are_distinct}
@@ -15,25 +15,11 @@ use Rattle.obj_text.specs.Obj.{vert_at}
 pub record Marked (mark : ℕ) (vs : List VertName) (marks : List ℕ) : Type 0 where
   pub are : (n : ℕ) → n < length marks → eqb (get_or marks n 0) mark ≡ is_among vs n
 
--- BOOLEANS
-
-or_false : (a : Bool) → (a || false) ≡ a
-or_false true = refl
-or_false false = refl
-
-or_true : (a : Bool) → (a || true) ≡ true
-or_true true = refl
-or_true false = refl
-
-and_false : (a : Bool) → (a && false) ≡ false
-and_false true = refl
-and_false false = refl
-
 -- DISTINCT VERTICES
 
 -- the vertices of a list and one more
 pub is_among_push : (vs : List VertName) (v : VertName) (n : ℕ) → is_among (vs ++ v ∷ []) n ≡ (is_among vs n || eqb v.0 n)
-is_among_push vs v n = list_any-append (λ (u : VertName). eqb u.0 n) vs (v ∷ []) ∙ ap (λ (b : Bool). is_among vs n || b) (or_false (eqb v.0 n))
+is_among_push vs v n = list_any-append (λ (u : VertName). eqb u.0 n) vs (v ∷ []) ∙ ap (λ (b : Bool). is_among vs n || b) (or-false (eqb v.0 n))
 
 -- a list that repeats a vertex does so with others after it
 among_grows : (vs us : List VertName) (n : ℕ) → is_among vs n ≡ true → is_among (vs ++ us) n ≡ true
@@ -41,7 +27,7 @@ among_grows vs us n h = list_any-append (λ (u : VertName). eqb u.0 n) vs us ∙
 
 repeats_with : (v : VertName) (vs us : List VertName) (a : Bool) → is_among vs v.0 ≡ a → (not a && are_distinct vs) ≡ false → (are_distinct vs ≡ false → are_distinct (vs ++ us) ≡ false) → (not (is_among (vs ++ us) v.0) && are_distinct (vs ++ us)) ≡ false
 repeats_with v vs us true among h grows = ap (λ (b : Bool). not b && are_distinct (vs ++ us)) (among_grows vs us v.0 among)
-repeats_with v vs us false among h grows = ap (λ (b : Bool). not (is_among (vs ++ us) v.0) && b) (grows h) ∙ and_false (not (is_among (vs ++ us) v.0))
+repeats_with v vs us false among h grows = ap (λ (b : Bool). not (is_among (vs ++ us) v.0) && b) (grows h) ∙ and-false (not (is_among (vs ++ us) v.0))
 
 pub repeats_grows : (vs us : List VertName) → are_distinct vs ≡ false → are_distinct (vs ++ us) ≡ false
 repeats_grows [] us h = absurd (true≢false h)
@@ -67,10 +53,6 @@ distinct_push (u ∷ us) v =
 differ_false : (a b : ℕ) → a ≢ b → eqb a b ≡ false
 differ_false a b h = elim (eqb_tells a b) [ inl e ↦ absurd (h e.1) | inr e ↦ e.0 ]
 
--- fresh marks mark no vertex
-pub marked_none : (mark : ℕ) (marks : List ℕ) → All (λ m. m < mark) marks → Marked mark [] marks
-marked_none mark marks fresh = record { are = λ n less. let old : get_or marks n 0 < mark = fresh n 0 less in differ_false (get_or marks n 0) mark (λ e. absurd (omega arith)) }
-
 -- one vertex more
 pub marked_more : (mark : ℕ) (vs : List VertName) (v : VertName) (marks : List ℕ) → v.0 < length marks → Marked mark vs marks → Marked mark (vs ++ v ∷ []) (set marks v.0 mark)
 marked_more mark vs v marks here h = record {
@@ -79,11 +61,11 @@ marked_more mark vs v marks here h = record {
       elim (eqb_tells v.0 n) [
         | inl e ↦
             let now : get_or (set marks v.0 mark) n 0 ≡ mark = ap (λ (k : ℕ). get_or (set marks v.0 mark) k 0) (sym e.1) ∙ get_or-set_same marks v.0 mark 0 here in
-            let among : is_among (vs ++ v ∷ []) n ≡ true = is_among_push vs v n ∙ ap (λ (b : Bool). is_among vs n || b) e.0 ∙ or_true (is_among vs n) in
+            let among : is_among (vs ++ v ∷ []) n ≡ true = is_among_push vs v n ∙ ap (λ (b : Bool). is_among vs n || b) e.0 ∙ or-true (is_among vs n) in
             eq-eqb (get_or (set marks v.0 mark) n 0) mark now ∙ sym among
         | inr e ↦
             let now : get_or (set marks v.0 mark) n 0 ≡ get_or marks n 0 = get_or-set_other marks v.0 n mark 0 (λ s. e.1 (sym s)) in
-            let among : is_among (vs ++ v ∷ []) n ≡ is_among vs n = is_among_push vs v n ∙ ap (λ (b : Bool). is_among vs n || b) e.0 ∙ or_false (is_among vs n) in
+            let among : is_among (vs ++ v ∷ []) n ≡ is_among vs n = is_among_push vs v n ∙ ap (λ (b : Bool). is_among vs n || b) e.0 ∙ or-false (is_among vs n) in
             ap (λ (m : ℕ). eqb m mark) now ∙ h.are n within ∙ sym among
       ];
 }
@@ -103,7 +85,7 @@ marked_twice mark indices i x marks here at h within found =
     let vs = map vert_at indices in
     let among : is_among (take i vs) (vert_at x).0 ≡ true = sym (h.are (vert_at x).0 within) ∙ eq-eqb (get_or marks (vert_at x).0 0) mark found in
     let some : are_distinct (take (i + 1) vs) ≡ false =
-    ap are_distinct (take_more_vert indices i x here at) ∙ distinct_push (take i vs) (vert_at x) ∙ ap (λ (b : Bool). are_distinct (take i vs) && not b) among ∙ and_false (are_distinct (take i vs)) in
+    ap are_distinct (take_more_vert indices i x here at) ∙ distinct_push (take i vs) (vert_at x) ∙ ap (λ (b : Bool). are_distinct (take i vs) && not b) among ∙ and-false (are_distinct (take i vs)) in
     ap are_distinct (sym (take-append-drop (i + 1) vs)) ∙ repeats_grows (take (i + 1) vs) (drop (i + 1) vs) some
 
 -- a vertex that hasn't stands once so far

@@ -5,6 +5,7 @@ use Rattle.std.proofs.lemmas.List.{take_more, length-map}
 use Rattle.std.proofs.lemmas.List.FromFn.{length-enumerate_from, get_or-enumerate_from}
 use Rattle.std.proofs.lemmas.List.Sums.{position_or_len_is, fold-append}
 use Rattle.std.proofs.lemmas.List.Elements.{All-cons}
+use Rattle.std.proofs.lemmas.Bool.{and_parts, leb-true, ltb-true}
 use Rattle.std.proofs.lemmas.Bool.Decides.{nat_tests}
 use borrow.Author.Count.{below_more}
 use Rattle.mesh_model.specs.Table.{at, IsThere, passes}
@@ -12,7 +13,6 @@ use Rattle.mesh_model.specs.Complex.{Complex, no_complex, corner_sum}
 use Rattle.mesh_model.specs.Making.{with_ring}
 use Rattle.mesh_model.specs.Valid.{are_distinct, is_on_grid, IsValid, IsSimple}
 use Rattle.mesh_model.proofs.Drafts.{few-with_ring, verts_there}
-use Rattle.mesh_model.proofs.Tables.{there-below}
 use Rattle.mesh_model.proofs.Valids.{IsSimple-with_vert, IsSimple-with_ring, IsValid-with_vert, IsValid-with_ring}
 use Rattle.mesh_model.specs.declared.names.VertName.{VertName}
 use Rattle.mesh_model.specs.declared.records.VertRec.{VertRec}
@@ -111,17 +111,6 @@ read_lines-refused scale lines n here h unknown =
 
 -- FACES
 
-both : (a b : Bool) → (a && b) ≡ true → (a ≡ true) × (b ≡ true)
-both true true h = (refl, refl)
-both true false h = absurd (cc)
-both false b h = absurd (cc)
-
-le_from : (a b : ℕ) → nat_le a b ≡ true → a ≤ b
-le_from a b h = grind (arith, nat_tests)
-
-lt_from : (a b : ℕ) → nat_lt a b ≡ true → a < b
-lt_from a b h = grind (arith, nat_tests)
-
 -- what a face may stand on
 pub record StandsOn (c : Complex) (indices : List ℕ) : Type 0 where
   pub least : 3 ≤ length indices
@@ -137,20 +126,20 @@ stands_on c indices h =
     let n = length indices in
     let read = list_all (is_read c.verts) indices in
     let distinct = are_distinct (map vert_at indices) in
-    let least = both (nat_le 3 n) (nat_le n 4096 && (read && (distinct && has_room c n))) h in
-    let most = both (nat_le n 4096) (read && (distinct && has_room c n)) least.1 in
-    let known = both read (distinct && has_room c n) most.1 in
-    let single = both distinct (has_room c n) known.1 in
-    let faces = both (nat_lt (length c.faces) 1048576) (nat_le (length c.edges + n) 2097152 && nat_le (corner_sum c.faces + n) 4194304) single.1 in
-    let rest = both (nat_le (length c.edges + n) 2097152) (nat_le (corner_sum c.faces + n) 4194304) faces.1 in
+    let least = and_parts (nat_le 3 n) (nat_le n 4096 && (read && (distinct && has_room c n))) h in
+    let most = and_parts (nat_le n 4096) (read && (distinct && has_room c n)) least.1 in
+    let known = and_parts read (distinct && has_room c n) most.1 in
+    let single = and_parts distinct (has_room c n) known.1 in
+    let faces = and_parts (nat_lt (length c.faces) 1048576) (nat_le (length c.edges + n) 2097152 && nat_le (corner_sum c.faces + n) 4194304) single.1 in
+    let rest = and_parts (nat_le (length c.edges + n) 2097152) (nat_le (corner_sum c.faces + n) 4194304) faces.1 in
     record {
-      least = le_from 3 n least.0;
-      most = le_from n 4096 most.0;
+      least = leb-true 3 n least.0;
+      most = leb-true n 4096 most.0;
       read = known.0;
       distinct = single.0;
-      faces = lt_from (length c.faces) 1048576 faces.0;
-      edges = le_from (length c.edges + n) 2097152 rest.0;
-      corners = le_from (corner_sum c.faces + n) 4194304 rest.1;
+      faces = ltb-true (length c.faces) 1048576 faces.0;
+      edges = leb-true (length c.edges + n) 2097152 rest.0;
+      corners = leb-true (corner_sum c.faces + n) 4194304 rest.1;
     }
 
 -- the vertices of the corners of indices
@@ -162,19 +151,9 @@ verts_corner_at (index ∷ indices) = ap (λ (vs : List VertName). vert_at index
 pub corners_there : (verts : List (Option VertRec)) (indices : List ℕ) → list_all (is_read verts) indices ≡ true → All (λ (k : DraftCorner). IsThere verts k.vert.0) (map corner_at indices)
 corners_there verts [] h = λ k d less. absurd (omega arith)
 corners_there verts (index ∷ indices) h =
-    let all = both (is_read verts index) (list_all (is_read verts) indices) h in
-    let here = both (nat_lt 0 index) (is_some (at verts (index - 1))) all.0 in
+    let all = and_parts (is_read verts index) (list_all (is_read verts) indices) h in
+    let here = and_parts (nat_lt 0 index) (is_some (at verts (index - 1))) all.0 in
     All-cons (λ (k : DraftCorner). IsThere verts k.vert.0) (corner_at index) (map corner_at indices) here.1 (corners_there verts indices all.1)
-
--- and aren't past the last
-pub read_within : (verts : List (Option VertRec)) (indices : List ℕ) (n : ℕ) → length verts ≤ n → list_all (is_read verts) indices ≡ true → All (λ i. (0 < i) × (i ≤ n)) indices
-read_within verts [] n enough h = λ k d less. absurd (omega arith)
-read_within verts (index ∷ indices) n enough h =
-    let all = both (is_read verts index) (list_all (is_read verts) indices) h in
-    let here = both (nat_lt 0 index) (is_some (at verts (index - 1))) all.0 in
-    let below = there-below verts (index - 1) here.1 in
-    let above = lt_from 0 index here.0 in
-    All-cons (λ i. (0 < i) × (i ≤ n)) index indices (above, omega arith) (read_within verts indices n enough all.1)
 
 -- VALID
 
@@ -190,8 +169,8 @@ valid-with_ring c indices s h =
 valid-with_item : (c : Complex) (item : Item) → fits c item ≡ true → IsValid c → IsValid (with_item c item)
 valid-with_item c Nothing fit h = h
 valid-with_item c (Vertex p) fit h =
-    let both_hold = both (is_on_grid p) (nat_lt (length c.verts) 1048576) fit in
-    IsValid-with_vert c (record { point = p }) (lt_from (length c.verts) 1048576 both_hold.1) both_hold.0 h
+    let both_hold = and_parts (is_on_grid p) (nat_lt (length c.verts) 1048576) fit in
+    IsValid-with_vert c (record { point = p }) (ltb-true (length c.verts) 1048576 both_hold.1) both_hold.0 h
 valid-with_item c (Ring indices) fit h = valid-with_ring c indices (stands_on c indices fit) h
 
 valid-with_spelled : (c : Complex) (o : Option Item) → passes (fits c) o ≡ true → IsValid c → IsValid (with_spelled c o)

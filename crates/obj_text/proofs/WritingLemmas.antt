@@ -1,17 +1,17 @@
 -- Lemmas on the written text.
-use Rattle.std.proofs.Common.{◌≡◌, ℕ, cond, IfSome, ◌+◌, ◌<◌, ◌≤◌, Bool, true, false, List, [], ◌∷◌, ◌++◌, length, get_or, take, refl, sym, ap, ◌∙◌, ◌⊎◌, inl, inr, arith, Option, Some, None, is_some}
+use Rattle.std.proofs.Common.{◌≡◌, ℕ, cond, IfSome, ◌+◌, ◌<◌, ◌≤◌, Bool, true, false, List, [], ◌∷◌, ◌++◌, length, get_or, take, refl, sym, ap, ◌∙◌, arith, Option, Some, None, is_some}
 use Rattle.std.specs.List.{flat_map, enumerate_from, slice_get}
 use Rattle.std.proofs.lemmas.List.{take_more, take_all, append-nil, length_push, get_or_append_left}
 use Rattle.std.proofs.Math.Seq.{get_or-append_seam}
 use Rattle.std.proofs.lemmas.List.FromFn.{length-enumerate_from, get_or-enumerate_from}
 use Rattle.std.proofs.lemmas.List.Sums.{count_by_more_yes, count_by_more_no}
-use Rattle.std.proofs.lemmas.Grind.{flat_map-append, common_steps}
+use Rattle.std.proofs.lemmas.Grind.{flat_map-append}
 use Rattle.std.proofs.lemmas.Option.{slice_get_within, get_or_from_slice_get}
 use borrow.Author.Count.{below_more}
 use Rattle.mesh_model.specs.Table.{at, IsThere, live}
 use Rattle.mesh_model.specs.Complex.{Complex, corners_of}
 use Rattle.mesh_model.specs.Valid.{IsLinked}
-use Rattle.mesh_model.proofs.Tables.{there-below, take_more_get, stands}
+use Rattle.mesh_model.proofs.Tables.{there-below, take_more_get}
 use Rattle.mesh_model.specs.declared.records.VertRec.{VertRec}
 use Rattle.mesh_model.specs.declared.records.EdgeRec.{EdgeRec}
 use Rattle.mesh_model.specs.declared.records.CornerRec.{CornerRec}

@@ -4,7 +4,6 @@ use Rattle.std.specs.declared.option.Option.TheVariants.{Some}
 use Rattle.mesh_model.specs.Complex.{Complex, counters_of}
 use Rattle.mesh_model.specs.Deleting.{without_verts}
 use Rattle.mesh_model.specs.Rows.{vert, square, point}
-use Rattle.mesh_model.specs.declared.records.Counters.{Counters}
 use Rattle.obj_text.specs.Obj.{read_text}
 use Rattle.obj_text.specs.Written.{grid_number, text}
 use Rattle.obj_text.specs.declared.obj_fault.ObjRefusal.{ObjRefusal}

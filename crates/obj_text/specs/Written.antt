@@ -7,7 +7,6 @@ use Rattle.std.specs.declared.option.Option.TheVariants.{None, Some}
 use Rattle.mesh_model.specs.Table.{live}
 use Rattle.mesh_model.specs.Complex.{Complex}
 use Rattle.mesh_model.specs.Incidence.{is_loose}
-use Rattle.mesh_model.specs.declared.names.VertName.{VertName}
 use Rattle.mesh_model.specs.declared.records.Point.{Point}
 use Rattle.mesh_model.specs.declared.records.VertRec.{VertRec}
 use Rattle.mesh_model.specs.declared.records.EdgeRec.{EdgeRec}

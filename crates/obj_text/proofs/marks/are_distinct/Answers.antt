@@ -1,4 +1,4 @@
-use Rattle.std.proofs.Common.{◌≡◌, ◌<◌, ◌≤◌, ◌-◌, ◌+◌, ◌∙◌, sym, refl, arith, length, get_or}
+use Rattle.std.proofs.Common.{◌<◌, ◌-◌, ◌+◌, ◌∙◌, sym, refl, arith, length, get_or}
 use Rattle.std.proofs.lemmas.List.{length-set}
 use Rattle.std.proofs.lemmas.List.Elements.{All-set}
 use Rattle.obj_text.proofs.MarkLemmas.{marked_twice, marked_once, marked_next}

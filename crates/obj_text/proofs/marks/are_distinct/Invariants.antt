@@ -1,4 +1,4 @@
-use Rattle.std.proofs.Common.{◌≡◌, ◌+◌, ◌<◌, ◌≤◌, ℕ, true, length, map, take}
+use Rattle.std.proofs.Common.{◌≡◌, ◌+◌, ◌<◌, true, length, map, take}
 use Rattle.std.specs.List.{All}
 use Rattle.mesh_model.specs.Valid.{are_distinct}
 use Rattle.obj_text.specs.Obj.{vert_at}

@@ -1,4 +1,4 @@
-use Rattle.std.proofs.Common.{◌≡◌, ◌≤◌, ◌^◌, ◌*ℤ◌, pos, to_z, of_z, w64, FitsSigned, arith}
+use Rattle.std.proofs.Common.{◌≡◌, ◌^◌, ◌*ℤ◌, pos, to_z, of_z, w64, FitsSigned, arith}
 use Rattle.std.proofs.lemmas.Int.{ints}
 use Rattle.obj_text.proofs.NumberLemmas.{unit_small, units_fit}
 use Rattle.obj_text.proofs.spelling.in_units.Goals as goal

@@ -1,4 +1,4 @@
-use Rattle.std.proofs.Common.{arith, sym, ◌∙◌}
+use Rattle.std.proofs.Common.{arith, sym}
 use Rattle.obj_text.proofs.WritingLemmas.{ends_told_below, wire_told}
 use Rattle.obj_text.proofs.wire_lines.wire_entry.Goals as goal
 

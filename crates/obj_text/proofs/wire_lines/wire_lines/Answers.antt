@@ -1,6 +1,5 @@
-use Rattle.std.proofs.Common.{arith, sym, ap, ◌∙◌, ◌≡◌, ◌<◌, ◌≤◌, ◌++◌, length, None}
+use Rattle.std.proofs.Common.{arith, ap, ◌∙◌, ◌≡◌, ◌++◌, length, None}
 use Rattle.std.specs.String.{string_bytes}
-use Rattle.mesh_model.specs.Complex.{counters_of}
 use Rattle.obj_text.specs.Written.{wire_entry}
 use Rattle.obj_text.proofs.WritingLemmas.{flat_map_more_named, flat_map_all_named}
 use Rattle.obj_text.proofs.wire_lines.wire_lines.Goals as goal
