@@ -1,8 +1,8 @@
 -- Lemmas on the lines that are left of a script.
-use Rattle.std.proofs.Common.{arith, ◌≡◌, ℕ, ◌+◌, ◌<◌, ◌≤◌, ◌==◌, ◌||◌, Bool, true, false, not, cond, is_some, List, [], ◌∷◌, ◌++◌, length, drop, get_or, refl, ap, sym, ◌∙◌, append_assoc, Option, Some, None, Result, Ok, Err, position}
+use Rattle.std.proofs.Common.{arith, ◌≡◌, ℕ, ◌+◌, ◌<◌, ◌==◌, ◌||◌, Bool, true, false, not, cond, is_some, List, [], ◌∷◌, ◌++◌, length, drop, get_or, refl, ap, sym, ◌∙◌, append_assoc, Option, Some, None, Result, Err, position}
 use Rattle.std.specs.List.{filter_map, enumerate_from, position_from, cons_option}
 use Rattle.std.specs.Option.{option_map}
-use Rattle.std.proofs.lemmas.List.{drop_more, at_drop_all, append-nil}
+use Rattle.std.proofs.lemmas.List.{drop_more}
 use Rattle.std.proofs.lemmas.Bool.{eqb-true}
 use Rattle.std.proofs.lemmas.Iterator.Adapters.{position_from-zero}
 use Rattle.mesh_model.specs.declared.slots.Op.{Op}
@@ -70,8 +70,3 @@ script_from-unknown ls k line cs all here at filled spelled before =
     sym (from_line ls k line cs all here at before)
     ∙ ap (λ (o : Option Op). with_line k (length line == 0) o (position_from is_unknown (k + 1) (drop (k + 1) ls)) (filter_map command_at (enumerate_from (k + 1) (drop (k + 1) ls))) cs) spelled
     ∙ ap (λ (b : Bool). with_line k b None (position_from is_unknown (k + 1) (drop (k + 1) ls)) (filter_map command_at (enumerate_from (k + 1) (drop (k + 1) ls))) cs) filled
-
--- no line is left
-pub script_from-done : (ls : List (List ℕ)) (k : ℕ) (cs : List Command) (all : Result Script ScriptRefusal) → length ls ≤ k → script_from k (drop k ls) cs ≡ all → all ≡ Ok (record { commands = cs })
-script_from-done ls k cs all past before =
-    sym before ∙ at_drop_all (λ (rest : List (List ℕ)). script_from k rest cs) ls k past ∙ ap (λ (xs : List Command). unless_unknown None xs) (append-nil cs)
