@@ -1,7 +1,6 @@
 -- The first of some terms that is refused.
-use Rattle.std.proofs.Common.{◌≡◌, ℕ, ◌+◌, ◌<◌, Bool, true, false, cond, List, [], ◌∷◌, length, get_or, drop, refl, ap, ◌∙◌, arith, Option, Some, None, is_some, Ok}
+use Rattle.std.proofs.Common.{◌≡◌, Bool, true, false, cond, List, [], ◌∷◌, refl, arith, Option, Some, None, is_some, Ok}
 use Rattle.std.specs.List.{All, filter_map, cons_option, slice_get}
-use Rattle.std.proofs.lemmas.List.{drop_more}
 use Rattle.std.proofs.lemmas.List.Elements.{All-cons}
 use Rattle.mesh_model.specs.Table.{at, IsThere}
 use Rattle.mesh_model.specs.Complex.{Complex}
@@ -13,11 +12,6 @@ use Rattle.mesh_model.specs.declared.refusal.Place.TheVariants.{Elem}
 use Rattle.mesh_model.specs.declared.slots.Term.{Term}
 use Rattle.mesh_model.specs.declared.slots.Term.TheVariants.{One}
 use Rattle.mesh_session.specs.Arguments.{term_fault, vert_of, chosen, named_verts}
-
--- what a term and those after it give
-pub filter_map-drop : {X Y : Type 0} (f : X → Option Y) (xs : List X) (i : ℕ) (d : X) (o : Option Y) → i < length xs → f (get_or xs i d) ≡ o → filter_map f (drop i xs) ≡ cons_option o (filter_map f (drop (i + 1) xs))
-filter_map-drop {X = X} {Y = Y} f xs i d o h is =
-    ap (λ (ys : List X). filter_map f ys) (drop_more xs i d h) ∙ ap (λ (q : Option Y). cons_option q (filter_map f (drop (i + 1) xs))) is
 
 there_or : (c : Complex) (v : VertName) (b : Bool) (ts : List Term) → is_some (at c.verts v.0) ≡ b
     → slice_get (cons_option (cond b None (Some (record { why = NoSuch; place = Elem (Vert v) }))) (filter_map (term_fault c) ts)) 0 ≡ None → (b ≡ true) × (slice_get (filter_map (term_fault c) ts) 0 ≡ None)
