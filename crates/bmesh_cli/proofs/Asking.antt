@@ -9,10 +9,10 @@ use Rattle.obj_text.specs.declared.obj_fault.ObjRefusal.{ObjRefusal}
 use Rattle.script_text.specs.declared.commands.Script.{Script}
 use Rattle.script_text.specs.declared.fault.ScriptRefusal.{ScriptRefusal}
 use Rattle.bmesh_cli.specs.Told.{Told}
-use Rattle.bmesh_cli.specs.Whole.{OnlyReads}
+use Rattle.bmesh_cli.specs.Whole.{AsksFor, OnlyReads}
 use Rattle.bmesh_cli.specs.Job.{Job, starts_of, model_starts, script_starts, out_starts}
 use Rattle.bmesh_cli.specs.Run.{due_by_script, due_by_model}
-use Rattle.bmesh_cli.specs.Ends.{is_past_model, is_past_script, AsksFor, PrintsLine, EndsBy, EndsRunBy, IsRefusal}
+use Rattle.bmesh_cli.specs.Ends.{is_past_model, is_past_script, PrintsLine, EndsBy, EndsRunBy, IsRefusal}
 use Rattle.bmesh_cli.specs.declared.start.Start.{Start}
 use Rattle.bmesh_cli.specs.declared.status.Status.{Status}
 use Rattle.bmesh_cli.specs.declared.status.Status.TheVariants.{Done, SomeRefused, Usage, ModelRefused, ScriptRefused, InFault, OutFault, NoMemory}
@@ -21,10 +21,6 @@ use Rattle.bmesh_cli.proofs.Running.{asks_after, asks_first}
 -- all of these files were asked for
 pub asks_all : (starts : List Start) (old new : Told) → new.started ≡ old.started ++ starts → AsksFor starts old new
 asks_all starts old new h = (length starts, h ∙ ap (λ (s : List Start). old.started ++ s) (sym (take-length starts)))
-
--- no file was asked for
-pub asks_none : (old new : Told) → new.started ≡ old.started → AsksFor [] old new
-asks_none old new h = asks_all [] old new (h ∙ sym (append-nil old.started))
 
 -- a line was printed
 pub prints_line : (line bytes : List ℕ) (old new : Told) → bytes ≡ line → new ≡ record old { printed = with_after old.printed bytes } → PrintsLine line [] fresh old new
@@ -84,7 +80,7 @@ ends_by_model model script out OutFault final old mid new past only first h = as
 ends_by_model model script out NoMemory final old mid new past only first h = asks_after model (script ++ out) old mid new first h
 
 -- a refusal's line, or a part of it, was printed after reading
-pub asks_refused : (a b : List Start) (old mid new : Told) → mid.started ≡ old.started ++ a → new.started ≡ mid.started → AsksFor (a ++ b) old new
+asks_refused : (a b : List Start) (old mid new : Told) → mid.started ≡ old.started ++ a → new.started ≡ mid.started → AsksFor (a ++ b) old new
 asks_refused a b old mid new first same = asks_first a b old new (asks_all a old new (same ∙ first))
 
 prints_refused : (line : List ℕ) (a : List Start) (old mid new : Told) → OnlyReads old mid → mid.started ≡ old.started ++ a → PrintsLine line [] fresh mid new → PrintsLine line a fresh old new
@@ -126,7 +122,7 @@ asks_by model script out NoMemory final old new h = h
 pub asks_out : (out : List Start) (status : Status) (final : State) (old new : Told) → EndsBy [] [] out status final old new → AsksFor out old new
 asks_out out status final old new h = asks_by [] [] out status final old new h
 
-pub asks_run : (job : Option Job) (status : Status) (final : State) (old new : Told) → EndsRunBy job status final old new → AsksFor (starts_of job) old new
+asks_run : (job : Option Job) (status : Status) (final : State) (old new : Told) → EndsRunBy job status final old new → AsksFor (starts_of job) old new
 asks_run None status final old new h = asks_by [] [] [] status final old new h
 asks_run (Some job) status final old new h = asks_by (model_starts job.model) (script_starts job.script) (out_starts job.out) status final old new h
 
@@ -158,7 +154,3 @@ due_script s verdict script out old mid new is first h = rw is (asks_after scrip
 pub due_model : (c : Complex) (model_verdict : Result Complex ObjRefusal) (verdict : Result Script ScriptRefusal) (model script out : List Start) (old mid new : Told) → model_verdict ≡ Ok c → mid.started ≡ old.started ++ model
     → AsksFor (due_by_script verdict script out) mid new → AsksFor (due_by_model model_verdict verdict model script out) old new
 due_model c model_verdict verdict model script out old mid new is first h = rw is (asks_after model (due_by_script verdict script out) old mid new first h)
-
--- a refusal by the file's first fault is that of a model made from a number
-pub refuses_grid : (r grid : ObjRefusal) (status : Status) → r ≡ grid → IsRefusal (ModelRefused r) status → IsRefusal (ModelRefused grid) status
-refuses_grid r grid status is h = rw is at h

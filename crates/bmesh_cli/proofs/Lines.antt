@@ -1,26 +1,18 @@
 -- One element more of a list that is walked by index.
-use Rattle.std.proofs.Common.{◌≡◌, ℕ, zero, suc, ◌+◌, ◌<◌, ◌++◌, ◌≤◌, Bool, true, false, cond, List, [], ◌∷◌, length, get_or, take, refl, sym, ap, ◌∙◌, arith}
+use Rattle.std.proofs.Common.{◌≡◌, ℕ, ◌+◌, ◌<◌, ◌++◌, ◌≤◌, Bool, true, false, cond, List, [], ◌∷◌, length, get_or, take, sym, ap, ◌∙◌, arith}
 use Rattle.std.specs.List.{zip, enumerate_from, count_by}
+use Rattle.std.proofs.lemmas.List.FromFn.{length-enumerate_from, get_or-enumerate_from}
 use Rattle.std.proofs.lemmas.List.Sums.{sum_by-append}
 use Rattle.std.proofs.lemmas.List.{take_more, take_all}
 use Rattle.std.proofs.lemmas.Slice.Zip.{get_or-zip, length-zip}
 use Rattle.std.proofs.lemmas.Grind.{common_steps}
 
-get_or-enumerate : {X : Type 0} (m : ℕ) (xs : List X) (i : ℕ) (k : ℕ) (d : X) → i < length xs → get_or (enumerate_from m xs) i (k, d) ≡ (m + i, get_or xs i d)
-get_or-enumerate m [] i k d h = absurd (omega arith)
-get_or-enumerate {X = X} m (x ∷ xs) zero k d h = ap (λ (n : ℕ). (n, x)) (omega arith)
-get_or-enumerate {X = X} m (x ∷ xs) (suc i) k d h = get_or-enumerate (m + 1) xs i k d (omega arith) ∙ ap (λ (n : ℕ). (n, get_or xs i d)) (omega arith)
-
-length-enumerate : {X : Type 0} (m : ℕ) (xs : List X) → length (enumerate_from m xs) ≡ length xs
-length-enumerate m [] = refl
-length-enumerate m (x ∷ xs) = ap (λ (n : ℕ). suc n) (length-enumerate (m + 1) xs)
-
 -- an entry with its name more
-pub take-enumerate : {X : Type 0} (xs : List X) (i : ℕ) (d : X) → i < length xs → take (i + 1) (enumerate_from 0 xs) ≡ take i (enumerate_from 0 xs) ++ (i, get_or xs i d) ∷ []
+take-enumerate : {X : Type 0} (xs : List X) (i : ℕ) (d : X) → i < length xs → take (i + 1) (enumerate_from 0 xs) ≡ take i (enumerate_from 0 xs) ++ (i, get_or xs i d) ∷ []
 take-enumerate {X = X} xs i d h =
-    let long : i < length (enumerate_from 0 xs) = omega (arith, length-enumerate 0 xs) in
+    let long : i < length (enumerate_from 0 xs) = omega (arith, length-enumerate_from 0 xs) in
     take_more (enumerate_from 0 xs) i (0, d) long
-    ∙ ap (λ (e : ℕ × X). take i (enumerate_from 0 xs) ++ e ∷ []) (get_or-enumerate 0 xs i 0 d h ∙ ap (λ (n : ℕ). (n, get_or xs i d)) (omega arith))
+    ∙ ap (λ (e : ℕ × X). take i (enumerate_from 0 xs) ++ e ∷ []) (get_or-enumerate_from 0 xs i (0, d) h ∙ ap (λ (n : ℕ). (n, get_or xs i d)) (omega arith))
 
 -- two elements at one place more
 pub take-zip : {X Y : Type 0} (xs : List X) (ys : List Y) (i : ℕ) (x : X) (y : Y) → i < length xs → i < length ys → x ≡ get_or xs i x → y ≡ get_or ys i y → take (i + 1) (zip xs ys) ≡ take i (zip xs ys) ++ (x, y) ∷ []
@@ -34,7 +26,7 @@ pub all-zip : {X Y : Type 0} (xs : List X) (ys : List Y) (n : ℕ) → length xs
 all-zip xs ys n h = take_all n (zip xs ys) (grind (arith, common_steps, length-zip))
 
 pub all-enumerate : {X : Type 0} (xs : List X) (n : ℕ) → length xs ≤ n → take n (enumerate_from 0 xs) ≡ enumerate_from 0 xs
-all-enumerate xs n h = take_all n (enumerate_from 0 xs) (omega (arith, length-enumerate 0 xs))
+all-enumerate xs n h = take_all n (enumerate_from 0 xs) (omega (arith, length-enumerate_from 0 xs))
 
 plus_one : (n : ℕ) (b : Bool) → n + (0 + cond b 1 0) ≡ cond b (n + 1) n
 plus_one n true = omega arith

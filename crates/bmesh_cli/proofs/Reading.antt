@@ -1,6 +1,6 @@
 -- Lemmas on reading a file to its end.
-use Rattle.std.proofs.Common.{◌≡◌, ℕ, ◌+◌, ◌<◌, ◌≤◌, List, [], ◌++◌, length, take, drop, refl, sym, ap, ◌∙◌, append_assoc, arith, Option, Some, Ok, Err}
-use Rattle.std.proofs.lemmas.List.{append-nil, take-append-drop, length-append, take_all}
+use Rattle.std.proofs.Common.{◌≡◌, ℕ, ◌+◌, ◌<◌, ◌≤◌, List, [], ◌++◌, length, take, drop, sym, ap, ◌∙◌, arith, Some, Ok, Err}
+use Rattle.std.proofs.lemmas.List.{append-nil, length-append, take_all}
 use Rattle.std.proofs.Math.Seq.{take-append_seam, drop-append_seam}
 use Rattle.std.proofs.Math.ListN.{drop_of_length-le}
 use Rattle.std.specs.Option.{option_map}
@@ -39,27 +39,6 @@ is_up_to_past limit out r all few more h =
 -- what was read, and what is told to be left, are the file
 abbrev pub AndLeft : Told → Told → List ℕ → List ℕ → Type 0
 AndLeft old t name out = (files : Files) → old.files ≡ Some files → (r : List ℕ) × (t.rest ≡ Some r) × (out ++ r ≡ bytes_of name files)
-
-pub is_asked_start : (old t : Told) (name : List ℕ) → t ≡ record (asked old name Reading) { rest = option_map (bytes_of name) old.files } → IsAsked old t name
-is_asked_start old t name h = h ∙ ap (λ (r : Option (List ℕ)). record (asked old name Reading) { rest = r }) (sym (ap (λ (x : Told). x.rest) h))
-
-pub and_left_start : (old t : Told) (name : List ℕ) → t ≡ record (asked old name Reading) { rest = option_map (bytes_of name) old.files } → AndLeft old t name []
-and_left_start old t name h files told = (bytes_of name files, ap (λ (x : Told). x.rest) h ∙ ap (option_map (bytes_of name)) told, refl)
-
-pub is_asked_more : (old t t' : Told) (name into : List ℕ) (n : ℕ) → IsAsked old t name → ReadsNext t t' into (Ok n) → IsAsked old t' name
-is_asked_more old t t' name into n only h =
-    h.1 ∙ ap (λ (x : Told). record x { rest = option_map (drop n) t.rest }) only
-    ∙ ap (λ (r : Option (List ℕ)). record (asked old name Reading) { rest = r }) (sym (ap (λ (x : Told). x.rest) h.1))
-
-pub and_left_more : (old t t' : Told) (name out into : List ℕ) (n : ℕ) → AndLeft old t name out → ReadsNext t t' into (Ok n) → AndLeft old t' name (out ++ take n into)
-and_left_more old t t' name out into n left h files told =
-    let was = left files told in
-    let next = h.2 was.0 was.1 in (
-      drop n was.0,
-      ap (λ (x : Told). x.rest) h.1 ∙ ap (option_map (drop n)) was.1,
-      append_assoc out (take n into) (drop n was.0) ∙ ap (λ (p : List ℕ). out ++ (p ++ drop n was.0)) next.0
-          ∙ ap (λ (p : List ℕ). out ++ p) (take-append-drop n was.0) ∙ was.2,
-    )
 
 -- nothing was given, though there was room: the file is read
 pub is_whole_at_end : (old t t' : Told) (name out into : List ℕ) (limit n : ℕ) → length out ≤ limit + 1 → 0 < length into → n ≡ 0 → AndLeft old t name out → ReadsNext t t' into (Ok n) → IsWhole old name limit out

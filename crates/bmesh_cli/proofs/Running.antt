@@ -1,27 +1,25 @@
 -- How the stages of a run make the whole.
 use Rattle.std.proofs.Common.{◌≡◌, ℕ, ◌+◌, min, inl, inr, true, false, List, [], ◌++◌, length, take, refl, sym, ap, ◌∙◌, arith, append_assoc, Some, None, Result, Ok, Err, true≢false}
-use Rattle.std.proofs.Math.Seq.{take-length, take-append-add}
-use Rattle.std.proofs.lemmas.List.{take-append-le, take_all}
-use Rattle.std.proofs.lemmas.Bool.{cases_lt}
+use Rattle.std.proofs.Math.Seq.{take-append-add}
+use Rattle.std.proofs.lemmas.List.{take-append-le, take_min}
 use Rattle.std.specs.Option.{option_map}
 use Rattle.mesh_model.specs.declared.slots.Command.{Command}
 use Rattle.mesh_session.specs.State.{State, fresh, loaded, steps}
 use Rattle.mesh_session.specs.declared.reply.Reply.{Reply}
 use Rattle.obj_text.specs.Told.{with_after}
 use Rattle.bmesh_cli.specs.Files.{Files, put}
-use Rattle.bmesh_cli.specs.Told.{Told, asked}
+use Rattle.bmesh_cli.specs.Told.{Told}
 use Rattle.mesh_model.specs.Complex.{Complex}
 use Rattle.obj_text.specs.declared.obj_fault.ObjRefusal.{ObjRefusal}
 use Rattle.script_text.specs.declared.commands.Script.{Script}
 use Rattle.script_text.specs.declared.fault.ScriptRefusal.{ScriptRefusal}
 use Rattle.bmesh_cli.specs.Job.{Job, job_of, out_of}
 use Rattle.bmesh_cli.specs.Run.{Outcome, model_of, script_named, refuses, concludes, delivers, with_script, with_model, outcome, model_line, script_line, usage_line}
-use Rattle.bmesh_cli.specs.Ends.{is_answer, made_with, begun_after, Caused, AsksFor, Ends}
-use Rattle.bmesh_cli.specs.Whole.{KeepsCounts, OnlyReads, OnlyWrites, MakesPart, PrintsPart}
+use Rattle.bmesh_cli.specs.Ends.{is_answer, made_with, begun_after, Ends}
+use Rattle.bmesh_cli.specs.Whole.{AsksFor, OnlyReads, PrintsPart}
 use Rattle.bmesh_cli.specs.declared.start.Start.{Start}
-use Rattle.bmesh_cli.specs.declared.start.Purpose.TheVariants.{Writing}
 use Rattle.bmesh_cli.specs.declared.status.Status.{Status}
-use Rattle.bmesh_cli.specs.declared.status.Status.TheVariants.{Done, SomeRefused, Usage, ModelRefused, ScriptRefused, InFault, OutFault, NoMemory}
+use Rattle.bmesh_cli.specs.declared.status.Status.TheVariants.{Usage, ModelRefused, ScriptRefused}
 
 -- reading before a stage changes nothing that an end speaks of
 pub ends_after : (o : Outcome) (out : List ℕ) (status : Status) (final : State) (old mid new : Told) → OnlyReads old mid → Ends o out status final mid new → Ends o out status final old new
@@ -54,96 +52,20 @@ ends_after o out status final old mid new only h =
       out_fault = h.out_fault;
     }
 
--- a count rises in a run where it rises after a stage that leaves it
-pub caused_after : (status : Status) (old mid new : Told) → KeepsCounts old mid → Caused status mid new → Caused status old new
-caused_after Done old mid new keeps h = record { input = h.input ∙ keeps.input; output = h.output ∙ keeps.output }
-caused_after SomeRefused old mid new keeps h = record { input = h.input ∙ keeps.input; output = h.output ∙ keeps.output }
-caused_after Usage old mid new keeps h = record { input = h.input ∙ keeps.input; output = h.output ∙ keeps.output }
-caused_after (ModelRefused r) old mid new keeps h = record { input = h.input ∙ keeps.input; output = h.output ∙ keeps.output }
-caused_after (ScriptRefused r) old mid new keeps h = record { input = h.input ∙ keeps.input; output = h.output ∙ keeps.output }
-caused_after NoMemory old mid new keeps h = record { input = h.input ∙ keeps.input; output = h.output ∙ keeps.output }
-caused_after InFault old mid new keeps h = (rw (← keeps.input) h.0, h.1 ∙ keeps.output)
-caused_after OutFault old mid new keeps h = (rw (← keeps.output) h.0, h.1 ∙ keeps.input)
-
 -- the files of a stage were asked for, and then some of the next one's
 pub asks_after : (a b : List Start) (old mid new : Told) → mid.started ≡ old.started ++ a → AsksFor b mid new → AsksFor (a ++ b) old new
 asks_after a b old mid new first then =
     (length a + then.0, then.1 ∙ ap (λ (s : List Start). s ++ take then.0 b) first ∙ append_assoc old.started a (take then.0 b) ∙ ap (λ (s : List Start). old.started ++ s) (sym (take-append-add a b then.0)))
 
-take_min : (a : List Start) (n : ℕ) → take (min n (length a)) a ≡ take n a
-take_min a n = elim (cases_lt n (length a)) [
-  | inl less ↦ let same : min n (length a) ≡ n = omega arith in ap (λ (k : ℕ). take k a) same
-  | inr more ↦ let same : min n (length a) ≡ length a = omega arith in ap (λ (k : ℕ). take k a) same ∙ take-length a ∙ sym (take_all n a (omega arith))
-]
-
 take_least : (a b : List Start) (n : ℕ) → take (min n (length a)) (a ++ b) ≡ take n a
-take_least a b n = take-append-le (min n (length a)) a b (omega arith) ∙ take_min a n
+take_least a b n = take-append-le (min n (length a)) a b (omega arith) ∙ take_min n a
 
 -- of a stage's files some were asked for
 pub asks_first : (a b : List Start) (old new : Told) → AsksFor a old new → AsksFor (a ++ b) old new
 asks_first a b old new h = (min h.0 (length a), h.1 ∙ ap (λ (s : List Start). old.started ++ s) (sym (take_least a b h.0)))
 
--- memory ran out before anything was made or printed
-pub ends_without_memory : (o : Outcome) (out : List ℕ) (final : State) (old new : Told) → new.made ≡ old.made → new.printed ≡ old.printed → Ends o out NoMemory final old new
-ends_without_memory o out final old new made printed = record {
-  answer = λ is. absurd (true≢false (sym is));
-  session = λ is. absurd (true≢false (sym is));
-  all = λ is. absurd (true≢false (sym is));
-  part = inl (record { made = inl made; printed = printed });
-  out_fault = λ is. absurd (cc);
-}
-
--- a file could not be read
-pub ends_unread : (o : Outcome) (out : List ℕ) (final : State) (old new : Told) → OnlyReads old new → Ends o out InFault final old new
-ends_unread o out final old new only = record {
-  answer = λ is. absurd (true≢false (sym is));
-  session = λ is. absurd (true≢false (sym is));
-  all = λ is. absurd (true≢false (sym is));
-  part = inl (record { made = inl (ap (λ (t : Told). t.made) only); printed = ap (λ (t : Told). t.printed) only });
-  out_fault = λ is. absurd (cc);
-}
-
--- a fault kept a part of OUT from being made
-pub ends_unwritten : (o : Outcome) (out text : List ℕ) (status : Status) (final : State) (old new : Told) → o.made ≡ Some text → is_answer status ≡ false → final ≡ o.session → OnlyWrites old new → MakesPart old new out text
-    → Ends o out status final old new
-ends_unwritten o out text status final old new some fault same only part = record {
-  answer = λ is. absurd (true≢false (sym is ∙ fault));
-  session = λ is. absurd (true≢false (sym is ∙ fault));
-  all = λ is. absurd (true≢false (sym is ∙ fault));
-  part = inl (record {
-    made = elim part [ inl kept ↦ inl kept | inr made ↦ inr (text, some, made) ];
-    printed = ap (λ (t : Told). t.printed) only;
-  });
-  out_fault = λ _. same;
-}
-
--- OUT was made, and the report printed or a part of it
-pub ends_written : (o : Outcome) (out text : List ℕ) (status : Status) (final : State) (old mid new : Told) → o.made ≡ Some text
-    → mid ≡ record (asked old out Writing) { made = option_map (put out text) old.made; begun = None }
-    → (is_answer status ≡ true → status ≡ o.status) → (is_answer status ≡ true → new ≡ record mid { printed = with_after mid.printed o.printed }) → final ≡ o.session → PrintsPart mid new o.printed
-    → Ends o out status final old new
-ends_written o out text status final old mid new some wrote answer all same part =
-    let made : mid.made ≡ made_with out o.made old.made = ap (λ (t : Told). t.made) wrote ∙ ap (λ m. made_with out m old.made) (sym some) in
-    let printed : mid.printed ≡ old.printed = ap (λ (t : Told). t.printed) wrote in
-    let begun : mid.begun ≡ begun_after o.made old.begun = ap (λ (t : Told). t.begun) wrote ∙ ap (λ m. begun_after m old.begun) (sym some) in
-    record {
-      answer = answer;
-      session = λ _. same;
-      all = λ is. record {
-        made = ap (λ (t : Told). t.made) (all is) ∙ made;
-        begun = ap (λ (t : Told). t.begun) (all is) ∙ begun;
-        printed = ap (λ (t : Told). t.printed) (all is) ∙ ap (λ p. with_after p o.printed) printed;
-      };
-      part = inr (record {
-        made = ap (λ (t : Told). t.made) part.1 ∙ made;
-        begun = ap (λ (t : Told). t.begun) part.1 ∙ begun;
-        printed = (part.0, ap (λ (t : Told). t.printed) part.1 ∙ ap (λ p. with_after p (take part.0 o.printed)) printed);
-      });
-      out_fault = λ _. same;
-    }
-
 -- one line was printed in place of a report, or a part of it
-pub ends_refused : (refused status : Status) (line out : List ℕ) (old new : Told) → (is_answer status ≡ true → status ≡ refused) → (is_answer status ≡ true → new ≡ record old { printed = with_after old.printed line }) → PrintsPart old new line
+ends_refused : (refused status : Status) (line out : List ℕ) (old new : Told) → (is_answer status ≡ true → status ≡ refused) → (is_answer status ≡ true → new ≡ record old { printed = with_after old.printed line }) → PrintsPart old new line
     → Ends (refuses refused line) out status fresh old new
 ends_refused refused status line out old new answer all part = record {
   answer = answer;

@@ -12,7 +12,7 @@ use Rattle.script_text.specs.declared.commands.Script.{Script}
 use Rattle.script_text.specs.declared.fault.ScriptRefusal.{ScriptRefusal}
 use Rattle.bmesh_cli.specs.Files.{Files, bytes_of, put}
 use Rattle.bmesh_cli.specs.Told.{Told}
-use Rattle.bmesh_cli.specs.Whole.{KeepsCounts}
+use Rattle.bmesh_cli.specs.Whole.{KeepsCounts, AsksFor}
 use Rattle.bmesh_cli.specs.Job.{Job, is_grid, is_tour, model_starts, script_starts, out_starts}
 use Rattle.bmesh_cli.specs.Run.{Outcome, model_of, script_named, grid_refusal, read_most, usage_line, model_line, script_line}
 use Rattle.bmesh_cli.specs.declared.start.Start.{Start}
@@ -115,10 +115,6 @@ Caused (ScriptRefused r) old new = KeepsCounts old new
 Caused InFault old new = Rose old.in_faults new.in_faults × (new.out_faults ≡ old.out_faults)
 Caused OutFault old new = Rose old.out_faults new.out_faults × (new.in_faults ≡ old.in_faults)
 Caused NoMemory old new = KeepsCounts old new
-
--- of these files the first so many were asked for, in order
-abbrev pub AsksFor : List Start → Told → Told → Type 0
-AsksFor starts old new = (n : ℕ) × (new.started ≡ old.started ++ take n starts)
 
 -- one line was printed and nothing made, the session is fresh, and these files were asked for
 pub record PrintsLine (line : List ℕ) (starts : List Start) (final : State) (old new : Told) : Type 0 where

@@ -1,8 +1,8 @@
 -- What an input gives, or why it gives nothing.
-use Rattle.std.specs.Prelude.{◌≡◌, ℕ, ◌++◌, List, take, Result, Ok, Err}
+use Rattle.std.specs.Prelude.{◌≡◌, ℕ, ◌++◌, List, Result, Ok, Err}
 use Rattle.obj_text.specs.Causes.{Rose}
 use Rattle.bmesh_cli.specs.Told.{Told}
-use Rattle.bmesh_cli.specs.Whole.{KeepsCounts, IsLeft}
+use Rattle.bmesh_cli.specs.Whole.{KeepsCounts, AsksFor, IsLeft}
 use Rattle.bmesh_cli.specs.declared.start.Start.{Start}
 use Rattle.bmesh_cli.specs.declared.stop.Stop.{Stop}
 use Rattle.bmesh_cli.specs.declared.stop.Stop.TheVariants.{Refused, Failed, NoMemory}
@@ -29,8 +29,8 @@ CausesStop (Err NoMemory) old new = KeepsCounts old new
 abbrev pub AsksBefore : {T R : Type 0} → Result T (Stop R) → List Start → Told → Told → Type 0
 AsksBefore (Ok _) starts old new = new.started ≡ old.started ++ starts
 AsksBefore (Err (Refused _)) starts old new = new.started ≡ old.started ++ starts
-AsksBefore (Err Failed) starts old new = (n : ℕ) × (new.started ≡ old.started ++ take n starts)
-AsksBefore (Err NoMemory) starts old new = (n : ℕ) × (new.started ≡ old.started ++ take n starts)
+AsksBefore (Err Failed) starts old new = AsksFor starts old new
+AsksBefore (Err NoMemory) starts old new = AsksFor starts old new
 
 -- where an input was judged, all but the first so many bytes of its file are left to read
 abbrev pub LeavesRest : {T R : Type 0} → Result T (Stop R) → Told → Told → List ℕ → ℕ → Type 0

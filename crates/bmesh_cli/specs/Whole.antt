@@ -8,6 +8,7 @@ use Rattle.bmesh_cli.specs.Files.{Files, bytes_of, put}
 use Rattle.bmesh_cli.specs.Told.{Told, asked}
 use Rattle.bmesh_cli.specs.declared.fault.WorldFault.{WorldFault}
 use Rattle.bmesh_cli.specs.declared.fault.WorldFault.TheVariants.{Failed, NoMemory}
+use Rattle.bmesh_cli.specs.declared.start.Start.{Start}
 use Rattle.bmesh_cli.specs.declared.start.Purpose.{Purpose}
 
 -- both counts are as before
@@ -27,11 +28,15 @@ CausesOut (Ok _) old new = KeepsCounts old new
 CausesOut (Err Failed) old new = Rose old.out_faults new.out_faults × (new.in_faults ≡ old.in_faults)
 CausesOut (Err NoMemory) old new = KeepsCounts old new
 
+-- of these files the first so many were asked for, in order
+abbrev pub AsksFor : List Start → Told → Told → Type 0
+AsksFor starts old new = (n : ℕ) × (new.started ≡ old.started ++ take n starts)
+
 -- the file was asked for, or there was no memory and the file was asked for or not
 abbrev pub GainsStart : {T : Type 0} → Result T WorldFault → Told → Told → List ℕ → Purpose → Type 0
 GainsStart (Ok _) old new name purpose = new.started ≡ (asked old name purpose).started
 GainsStart (Err Failed) old new name purpose = new.started ≡ (asked old name purpose).started
-GainsStart (Err NoMemory) old new name purpose = (n : ℕ) × (new.started ≡ old.started ++ take n (record { name = name; purpose = purpose } ∷ []))
+GainsStart (Err NoMemory) old new name purpose = AsksFor (record { name = name; purpose = purpose } ∷ []) old new
 
 -- the bytes are a file's first, one past a limit at most; so up to the limit they are all of them
 pub record IsUpTo (limit : ℕ) (bytes file : List ℕ) : Type 0 where

@@ -7,10 +7,10 @@ ghost use Rattle.mesh_session.specs.State.{fresh, IsSoundState};
 ghost use Rattle.bmesh_cli.specs.Files.{Files};
 ghost use Rattle.bmesh_cli.specs.Job.{job_of, script_starts, out_starts, model_starts, starts_of, out_of};
 ghost use Rattle.bmesh_cli.specs.Run.{model_of, script_named, model_line, script_line, refuses, concludes, delivers, with_script, with_model, usage_line, outcome, due_by_script, due_by_model, due};
-ghost use Rattle.bmesh_cli.specs.Ends.{is_answer, is_delivered, is_past_model, is_past_script, Ends, LeavesAll, Caused, AsksFor, EndsBy, EndsRunBy, ReadsBy, ReadsRunBy, IsOnTheWay, IsPartOf, IsPartOfRun, IsRefusal, RefusesWords, Completes};
+ghost use Rattle.bmesh_cli.specs.Ends.{is_answer, is_delivered, is_past_model, is_past_script, Ends, LeavesAll, Caused, EndsBy, EndsRunBy, ReadsBy, ReadsRunBy, IsOnTheWay, IsPartOf, IsPartOfRun, IsRefusal, RefusesWords, Completes};
 ghost use Rattle.bmesh_cli.specs.Report.{report, is_refused};
 ghost use Rattle.bmesh_cli.specs.Memory.{sure_told};
-ghost use Rattle.bmesh_cli.specs.Whole.{PrintsPart, OnlyPrints};
+ghost use Rattle.bmesh_cli.specs.Whole.{AsksFor, PrintsPart, OnlyPrints};
 ghost use Rattle.obj_text.specs.Told.{with_after};
 ghost use Rattle.std.specs.List.{list_any};
 
@@ -48,7 +48,8 @@ pub fn run<W: World>(
 ) -> Status
     requires { session.old ≡ fresh }
     ensures ends { (files : Files) → (W.told world.old).files ≡ Some files
-        → Ends (outcome (map string_bytes words.now) files) (out_of (job_of (map string_bytes words.now))) result session.new (W.told world.old) (W.told world.new) }
+        → Ends (outcome (map string_bytes words.now) files) (out_of (job_of (map string_bytes words.now))) result session.new
+        (W.told world.old) (W.told world.new) }
     ensures in_fault { result ≡ Status.InFault → LeavesAll session.new (W.told world.old) (W.told world.new) }
     ensures no_memory { result ≡ Status.NoMemory → (files : Files) → (W.told world.old).files ≡ Some files
         → IsPartOfRun (job_of (map string_bytes words.now)) files session.new }
@@ -58,7 +59,8 @@ pub fn run<W: World>(
     ensures due { (files : Files) → (W.told world.old).files ≡ Some files
         → AsksFor (due (job_of (map string_bytes words.now)) files) (W.told world.old) (W.told world.new) }
     ensures by_status { EndsRunBy (job_of (map string_bytes words.now)) result session.new (W.told world.old) (W.told world.new) }
-    ensures read { (files : Files) → (W.told world.old).files ≡ Some files → ReadsRunBy (job_of (map string_bytes words.now)) files result (W.told world.new) }
+    ensures read { (files : Files) → (W.told world.old).files ≡ Some files
+        → ReadsRunBy (job_of (map string_bytes words.now)) files result (W.told world.new) }
     ensures finished { is_delivered result ≡ true → (W.told world.new).begun ≡ None }
     ensures complete { (files : Files) → (W.told world.old).files ≡ Some files
         → Completes (outcome (map string_bytes words.now) files) result (W.told world.old) (W.told world.new) }
@@ -70,7 +72,8 @@ pub fn run<W: World>(
     }
 }
 
-/// The same over a world that never fails.
+/// The same over a world that never fails. It promises the clauses `ends` and `usage` of `run`, and that
+/// neither fault is answered; the other clauses aren't repeated.
 pub fn run_surely(
     alloc: Global,
     words: &[String],
@@ -79,7 +82,8 @@ pub fn run_surely(
 ) -> Status
     requires { session.old ≡ fresh }
     ensures ends { (files : Files) → world.old.told.files ≡ Some files
-        → Ends (outcome (map string_bytes words.now) files) (out_of (job_of (map string_bytes words.now))) result session.new (sure_told world.old) (sure_told world.new) }
+        → Ends (outcome (map string_bytes words.now) files) (out_of (job_of (map string_bytes words.now))) result session.new
+        (sure_told world.old) (sure_told world.new) }
     ensures usage { RefusesWords (job_of (map string_bytes words.now)) result }
     ensures no_in_fault { result ≡ Status.InFault → ⊥ }
     ensures no_out_fault { result ≡ Status.OutFault → ⊥ }
@@ -92,16 +96,21 @@ pub fn run_surely(
 fn run_job<W: World>(alloc: Global, job: Job<'_>, session: &mut Session, world: &mut W) -> Status
     requires { session.old ≡ fresh }
     ensures ends { (files : Files) → (W.told world.old).files ≡ Some files
-        → Ends (with_model (model_of job.entry.model.now files) (script_named job.entry.script.now files)) job.entry.out.now result session.new (W.told world.old) (W.told world.new) }
+        → Ends (with_model (model_of job.entry.model.now files) (script_named job.entry.script.now files))
+        job.entry.out.now result session.new (W.told world.old) (W.told world.new) }
     ensures in_fault { result ≡ Status.InFault → LeavesAll session.new (W.told world.old) (W.told world.new) }
     ensures no_memory { result ≡ Status.NoMemory → (files : Files) → (W.told world.old).files ≡ Some files
         → IsPartOf (model_of job.entry.model.now files) (script_named job.entry.script.now files) session.new }
     ensures usage { RefusesWords (Some (record { model = job.entry.model.now; script = job.entry.script.now; out = job.entry.out.now })) result }
     ensures cause { Caused result (W.told world.old) (W.told world.new) }
     ensures due { (files : Files) → (W.told world.old).files ≡ Some files
-        → AsksFor (due_by_model (model_of job.entry.model.now files) (script_named job.entry.script.now files) (model_starts job.entry.model.now) (script_starts job.entry.script.now) (out_starts job.entry.out.now)) (W.told world.old) (W.told world.new) }
-    ensures by_status { EndsBy (model_starts job.entry.model.now) (script_starts job.entry.script.now) (out_starts job.entry.out.now) result session.new (W.told world.old) (W.told world.new) }
-    ensures read { (files : Files) → (W.told world.old).files ≡ Some files → ReadsBy job.entry.model.now job.entry.script.now files result (W.told world.new) }
+        → AsksFor (due_by_model (model_of job.entry.model.now files) (script_named job.entry.script.now files)
+        (model_starts job.entry.model.now) (script_starts job.entry.script.now) (out_starts job.entry.out.now))
+        (W.told world.old) (W.told world.new) }
+    ensures by_status { EndsBy (model_starts job.entry.model.now) (script_starts job.entry.script.now)
+        (out_starts job.entry.out.now) result session.new (W.told world.old) (W.told world.new) }
+    ensures read { (files : Files) → (W.told world.old).files ≡ Some files
+        → ReadsBy job.entry.model.now job.entry.script.now files result (W.told world.new) }
     ensures finished { is_delivered result ≡ true → (W.told world.new).begun ≡ None }
     ensures sound { IsSoundState session.new }
 {
