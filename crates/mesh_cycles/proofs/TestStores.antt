@@ -54,14 +54,6 @@ live_len st f c live =
     let is : len_of st f ≡ Some cell.0.len = ap (option_map (λ (x : FaceCell). x.len)) cell.1 in
     is ∙ ap (λ (n : ℕ). Some n) (c f cell.0.len is)
 
--- what is told of a live place stands there
-pub told_live : {X Y : Type 0} (f : X → Y) (xs : List (Option X)) (s : ℕ) (y : Y) → option_map f (at xs s) ≡ Some y → IsLive xs s
-told_live {X} {Y} f xs s y e = by_cell (at xs s) e
-  where
-    by_cell : (o : Option X) → option_map f o ≡ Some y → holds o ≡ true
-    by_cell None p = absurd (let q : None ≡ Some y = p in cc)
-    by_cell (Some x) p = refl
-
 -- a dart that ends somewhere is there
 pub dart_there : (st : Stored) (d : Dart) (v : ℕ) → dart_end st d ≡ Some v → nat_lt d.side 2 ≡ true → IsTrue ((dart_links st).has d)
 dart_there st d v e low = by_cell (at st.edges.cells d.edge.0) e

@@ -68,9 +68,9 @@ pub(crate) fn no_loops(st: &Store) -> LoopsOfEdge<'_>
 
 /// An iterator over the faces along an edge, which [`faces_of_edge`] makes.
 ///
-/// After the last face it answers `None` for ever. An item takes time that grows with the loops passed over and the corners of
-/// their faces. A loop that isn't its face's only one along the edge, or isn't in the face's own cycle, takes one more walk
-/// along the edge.
+/// After the last face it answers `None` for ever. An item takes time that grows with the loops passed over and the
+/// corners of their faces. A loop that isn't its face's only one along the edge, or isn't in the face's own cycle,
+/// takes one more walk along the edge.
 #[derive(Drop)]
 #[must_use]
 pub struct FacesOfEdge<'a> {
@@ -103,8 +103,9 @@ impl<'a> FusedIterator for FacesOfEdge<'a> {}
 
 /// The live faces of the loops along a live edge, each once. Constant time.
 ///
-/// A face comes with the first loop of its own cycle along the edge, if the edge's cycle has that, and else with the first loop
-/// of the edge's cycle that names it. So none is left out (`all`), not even one whose own cycle is half built.
+/// A face comes with the first loop of its own cycle along the edge, if the edge's cycle has that, and else with the
+/// first loop of the edge's cycle that names it. So none is left out (`all`), not even one whose own cycle is half
+/// built.
 pub fn faces_of_edge(st: &Store, e: Slot) -> FacesOfEdge<'_>
     requires cycles { AreCycles st.now }
     requires live { IsLive st.now.edges.cells e.0 }

@@ -60,7 +60,8 @@ pub fn edges_of_vert(st: &Store, v: Slot) -> EdgesOfVert<'_>
 
 /// An iterator over the loops of the edges around a vertex that stand at it, which [`loops_of_vert`] makes.
 ///
-/// After the last loop it answers `None` for ever. All items together take time that grows with the edges and their loops.
+/// After the last loop it answers `None` for ever. All items together take time that grows with the edges and their
+/// loops.
 #[derive(Drop)]
 #[must_use]
 pub struct LoopsOfVert<'a> {
@@ -96,8 +97,8 @@ impl<'a> FusedIterator for LoopsOfVert<'a> {}
 
 /// The loops that stand at a live vertex, of one edge around it after the other, each once. Constant time.
 ///
-/// Where every dart is in the cycle of its end and every loop in that of its edge, these are all the live loops that stand there
-/// and whose edge ends there (`all`).
+/// Where every dart is in the cycle of its end and every loop in that of its edge, these are all the live loops that
+/// stand there and whose edge ends there (`all`).
 pub fn loops_of_vert(st: &Store, v: Slot) -> LoopsOfVert<'_>
     requires cycles { AreCycles st.now }
     requires live { IsLive st.now.verts.cells v.0 }
@@ -133,9 +134,9 @@ fn next_standing(st: &Store, v: Slot, loops: &mut LoopsOfEdge<'_>) -> Option<Slo
 
 /// An iterator over the faces around a vertex, which [`faces_of_vert`] makes.
 ///
-/// After the last face it answers `None` for ever. An item takes time that grows with the loops passed over and the corners of
-/// their faces. A loop that isn't its face's only one at the vertex, or isn't in the face's own cycle, takes one more walk
-/// around the vertex.
+/// After the last face it answers `None` for ever. An item takes time that grows with the loops passed over and the
+/// corners of their faces. A loop that isn't its face's only one at the vertex, or isn't in the face's own cycle, takes
+/// one more walk around the vertex.
 #[derive(Drop)]
 #[must_use]
 pub struct FacesOfVert<'a> {
@@ -168,8 +169,9 @@ impl<'a> FusedIterator for FacesOfVert<'a> {}
 
 /// The live faces of the loops at a live vertex that [`loops_of_vert`] gives, each once. Constant time.
 ///
-/// A face comes with the first loop of its own cycle that stands there and whose edge ends there, if that is among those loops,
-/// and else with the first of those that names it. So none is left out (`all`), not even one whose own cycle is half built.
+/// A face comes with the first loop of its own cycle that stands there and whose edge ends there, if that is among
+/// those loops, and else with the first of those that names it. So none is left out (`all`), not even one whose own
+/// cycle is half built.
 pub fn faces_of_vert(st: &Store, v: Slot) -> FacesOfVert<'_>
     requires cycles { AreCycles st.now }
     requires live { IsLive st.now.verts.cells v.0 }

@@ -39,7 +39,8 @@ pub(crate) fn members_of<K: Copy + Eq, L: Links<K>>(
     first: Option<K>,
 ) -> CycleIter<'_, K, L>
     requires { (xs : List K) × ReadsAs (L.links links.now) first xs }
-    ensures items { (xs : List K) → ReadsAs (L.links links.now) first xs → members_left K.eq L.links L.key_limit result ≡ xs }
+    ensures items { (xs : List K) → ReadsAs (L.links links.now) first xs
+        → members_left K.eq L.links L.key_limit result ≡ xs }
     ensures ready { CanGoOn K.eq L.links L.key_limit result }
 {
     match first {

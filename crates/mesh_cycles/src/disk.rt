@@ -35,7 +35,8 @@ pub fn disk_add(st: &mut Store, v: Slot, d: Dart)
     set_first_dart(st, v, head);
 }
 
-/// Takes a dart out of the disk cycle of its vertex. The others keep their order, and the dart behind a first one comes first.
+/// Takes a dart out of the disk cycle of its vertex. The others keep their order, and the dart behind a first one comes
+/// first.
 ///
 /// The vertex is live, and the dart is in its disk cycle. Constant time.
 pub fn disk_remove(st: &mut Store, v: Slot, d: Dart)

@@ -38,20 +38,21 @@ pub fn loop_make(st: &mut Store, f: Slot, l: Slot)
     st.set_face_len(f, 1);
 }
 
-/// Puts a loop right behind another one of its face. The first loop stays, and the face's length is then the number of its loops.
+/// Puts a loop right behind another one of its face. The first loop stays, and the face's length is then the number of
+/// its loops.
 ///
-/// `after` is in a loop cycle. `l` names the same face, and is in no loop cycle. The loops of the face are counted, so the time
-/// grows with their number; see [`loop_insert_counted`].
+/// `after` is in a loop cycle. `l` names the same face, and is in no loop cycle. The loops of the face are counted, so
+/// the time grows with their number; see [`loop_insert_counted`].
 pub fn loop_insert(st: &mut Store, after: Slot, l: Slot)
     requires cycles { AreCycles st.old }
     requires member { (f : ℕ) × HasMember (round_of st.old f) (record { 0 = after }) }
     requires same { face_of st.old l ≡ face_of st.old after }
     requires apart { IsInNoRound st.old l }
-    ensures own { (f : ℕ) → face_of st.old after ≡ Some f →
-        round_of st.new f ≡ with_behind same_round (record { 0 = after }) (record { 0 = l }) (round_of st.old f) }
+    ensures own { (f : ℕ) → face_of st.old after ≡ Some f
+        → round_of st.new f ≡ with_behind same_round (record { 0 = after }) (record { 0 = l }) (round_of st.old f) }
     ensures len { (f : ℕ) → face_of st.old after ≡ Some f → IsCounted st.new f }
-    ensures links { (f : ℕ) → face_of st.old after ≡ Some f →
-        SameOutside (round_links st.old) (round_links st.new) (record { 0 = l } ∷ round_of st.old f) }
+    ensures links { (f : ℕ) → face_of st.old after ≡ Some f
+        → SameOutside (round_links st.old) (round_links st.new) (record { 0 = l } ∷ round_of st.old f) }
     ensures disks { SameDisks st.old st.new }
     ensures radials { SameRadials st.old st.new }
     ensures others { (f : ℕ) → face_of st.old after ≡ Some f → SameRoundsBut f st.old st.new }
@@ -70,11 +71,11 @@ pub fn loop_insert_counted(st: &mut Store, after: Slot, l: Slot)
     requires counted { (f : ℕ) → face_of st.old after ≡ Some f → IsCounted st.old f }
     requires same { face_of st.old l ≡ face_of st.old after }
     requires apart { IsInNoRound st.old l }
-    ensures own { (f : ℕ) → face_of st.old after ≡ Some f →
-        round_of st.new f ≡ with_behind same_round (record { 0 = after }) (record { 0 = l }) (round_of st.old f) }
+    ensures own { (f : ℕ) → face_of st.old after ≡ Some f
+        → round_of st.new f ≡ with_behind same_round (record { 0 = after }) (record { 0 = l }) (round_of st.old f) }
     ensures len { (f : ℕ) → face_of st.old after ≡ Some f → IsCounted st.new f }
-    ensures links { (f : ℕ) → face_of st.old after ≡ Some f →
-        SameOutside (round_links st.old) (round_links st.new) (record { 0 = l } ∷ round_of st.old f) }
+    ensures links { (f : ℕ) → face_of st.old after ≡ Some f
+        → SameOutside (round_links st.old) (round_links st.new) (record { 0 = l } ∷ round_of st.old f) }
     ensures disks { SameDisks st.old st.new }
     ensures radials { SameRadials st.old st.new }
     ensures others { (f : ℕ) → face_of st.old after ≡ Some f → SameRoundsBut f st.old st.new }
@@ -87,11 +88,11 @@ pub fn loop_insert_counted(st: &mut Store, after: Slot, l: Slot)
     st.set_face_len(face, len + 1);
 }
 
-/// Takes a loop out of the loop cycle of its face. The others keep their order, the loop behind a first one comes first, and the
-/// face's length is then the number of its loops.
+/// Takes a loop out of the loop cycle of its face. The others keep their order, the loop behind a first one comes
+/// first, and the face's length is then the number of its loops.
 ///
-/// The face is live, and the loop is in its loop cycle. The loops of the face are counted, so the time grows with their number;
-/// see [`loop_remove_counted`].
+/// The face is live, and the loop is in its loop cycle. The loops of the face are counted, so the time grows with their
+/// number; see [`loop_remove_counted`].
 pub fn loop_remove(st: &mut Store, f: Slot, l: Slot)
     requires cycles { AreCycles st.old }
     requires live { IsLive st.old.faces.cells f.0 }

@@ -9,8 +9,8 @@ use mesh_store::{Slot, Store};
 
 /// The least-named live edge that joins two vertices, and `None` exactly where none does.
 ///
-/// The vertex `a` is live, and its disk cycle has every dart of a live edge that ends at it. It takes time that grows with the
-/// number of edges around `a`.
+/// The vertex `a` is live, and its disk cycle has every dart of a live edge that ends at it. It takes time that grows
+/// with the number of edges around `a`.
 pub fn find_edge(st: &Store, a: Slot, b: Slot) -> Option<Slot>
     requires cycles { AreCycles st.now }
     requires live { IsLive st.now.verts.cells a.0 }

@@ -38,8 +38,8 @@ impl<'a> Iterator for CornersOfFace<'a> {
 
 impl<'a> FusedIterator for CornersOfFace<'a> {}
 
-/// The loops of a live face, along its loop cycle from its first loop on. Constant time. There are never as many as 32 bits could
-/// count.
+/// The loops of a live face, along its loop cycle from its first loop on. Constant time. There are never as many as 32
+/// bits could count.
 pub fn corners_of_face(st: &Store, f: Slot) -> CornersOfFace<'_>
     requires cycles { AreCycles st.now }
     requires live { IsLive st.now.faces.cells f.0 }

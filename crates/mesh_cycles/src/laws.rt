@@ -2,7 +2,8 @@
 
 ghost use Rattle.mesh_cycles.specs.Rows.{SmallOwners, SmallEdges, SmallLoops, SmallCorners, SmallStanding, SmallFaces, SmallAround, HalfBuiltFaces, HalfBuiltAround, SmallNames, SmallJoins, OneLess, OneMore};
 
-/// Two edges at one vertex, and three faces, of which one has two corners on one edge; also before these are in its own cycle.
+/// Two edges at one vertex, and three faces, of which one has two corners on one edge; also before these are in its own
+/// cycle.
 pub fn small_store()
     ensures owners { SmallOwners }
     ensures edges { SmallEdges }

@@ -1,13 +1,14 @@
 //! The cycles of a mesh: the edges around a vertex, the loops around an edge, and the loops of a face.
 //!
-//! An edge is in the disk cycles of its two ends, and heads a radial cycle whose loops are in the loop cycles of their faces.
-//! Each call that edits changes one cycle of a [`Store`], and its contract gives the list of that cycle's members afterwards,
-//! and says that every other cycle of all three kinds keeps its members, and that all else the store holds stays. So nothing
-//! above has to think of links. The iterators and `find_edge` read cycles, and their contracts give the list of their items.
+//! An edge is in the disk cycles of its two ends, and heads a radial cycle whose loops are in the loop cycles of their
+//! faces. Each call that edits changes one cycle of a [`Store`], and its contract gives the list of that cycle's
+//! members afterwards, and says that every other cycle of all three kinds keeps its members, and that all else the
+//! store holds stays. So nothing above has to think of links. The iterators and `find_edge` read cycles, and their
+//! contracts give the list of their items.
 //!
-//! `AreCycles` of `specs/Cycles.antt` is what every call on cycles asks of the store and leaves it in: every cycle reads as the
-//! list of its members, they name their owner, and the two ends of an edge differ. `disk_of`, `radial_of` and `round_of` are
-//! those lists, from the first member on.
+//! `AreCycles` of `specs/Cycles.antt` is what every call on cycles asks of the store and leaves it in: every cycle
+//! reads as the list of its members, they name their owner, and the two ends of an edge differ. `disk_of`, `radial_of`
+//! and `round_of` are those lists, from the first member on.
 //!
 //! No call takes memory.
 //!

@@ -14,8 +14,10 @@ pub(crate) fn push_last<K: Copy + Eq, L: Links<K>>(
 ) -> Option<K>
     requires key { IsTrue ((L.links links.old).has k) }
     requires apart { (xs : List K) × ReadsAs (L.links links.old) first xs × (HasMember xs k → ⊥) }
-    ensures reads { (xs : List K) → ReadsAs (L.links links.old) first xs → ReadsAs (L.links links.new) result (xs ++ k ∷ []) }
-    ensures others { (xs : List K) → ReadsAs (L.links links.old) first xs → SameOutside (L.links links.old) (L.links links.new) (k ∷ xs) }
+    ensures reads { (xs : List K) → ReadsAs (L.links links.old) first xs
+        → ReadsAs (L.links links.new) result (xs ++ k ∷ []) }
+    ensures others { (xs : List K) → ReadsAs (L.links links.old) first xs
+        → SameOutside (L.links links.old) (L.links links.new) (k ∷ xs) }
     ensures keys { SameKeys (L.links links.old) (L.links links.new) }
     ensures rest { L.rest links.new ≡ L.rest links.old }
 {
@@ -35,8 +37,10 @@ pub(crate) fn take_member<K: Copy + Eq, L: Links<K>>(
     k: K,
 ) -> Option<K>
     requires { (xs : List K) × ReadsAs (L.links links.old) first xs × HasMember xs k }
-    ensures reads { (xs ys : List K) → ReadsAs (L.links links.old) first (xs ++ k ∷ ys) → ReadsAs (L.links links.new) result (xs ++ ys) }
-    ensures others { (xs : List K) → ReadsAs (L.links links.old) first xs → SameOutside (L.links links.old) (L.links links.new) xs }
+    ensures reads { (xs ys : List K) → ReadsAs (L.links links.old) first (xs ++ k ∷ ys)
+        → ReadsAs (L.links links.new) result (xs ++ ys) }
+    ensures others { (xs : List K) → ReadsAs (L.links links.old) first xs
+        → SameOutside (L.links links.old) (L.links links.new) xs }
     ensures keys { SameKeys (L.links links.old) (L.links links.new) }
     ensures rest { L.rest links.new ≡ L.rest links.old }
 {

@@ -34,7 +34,8 @@ pub fn radial_add(st: &mut Store, e: Slot, l: Slot)
     set_first_radial(st, e, head);
 }
 
-/// Takes a loop out of the radial cycle of its edge. The others keep their order, and the loop behind a first one comes first.
+/// Takes a loop out of the radial cycle of its edge. The others keep their order, and the loop behind a first one comes
+/// first.
 ///
 /// The edge is live, and the loop is in its radial cycle. Constant time.
 pub fn radial_remove(st: &mut Store, e: Slot, l: Slot)

@@ -1,5 +1,5 @@
-//! One reader and one writer for each field, whose slots have to be live, and tests for that. All take constant time and no
-//! memory.
+//! One reader and one writer for each field, whose slots have to be live, and tests for that. All take constant time
+//! and no memory.
 ghost use Rattle.std.specs.Prelude.{◌≡◌, ◌<◌, ◌^◌, ◌↔◌, Some, IsTrue, length};
 ghost use Rattle.std.specs.Option.{option_map};
 ghost use Rattle.raw_pool.specs.Slots.{IsLive};

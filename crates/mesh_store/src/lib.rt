@@ -1,13 +1,13 @@
 //! The stored structure of a mesh: four pools of elements, the directories of their names, and the links of three kinds
 //! of cycles.
 //!
-//! A [`Store`] keeps vertices, edges, loops (the corners of faces) and faces, each at a [`Slot`] that stays its own until
-//! it is dropped. Vertices, edges and faces have names, which are numbers, and a directory leads from each name to its
-//! slot. A store knows fields and links and nothing of what they are to mean: which vertices an edge joins is what was
-//! written there. The cycles stand in the crate above.
+//! A [`Store`] keeps vertices, edges, loops (the corners of faces) and faces, each at a [`Slot`] that stays its own
+//! until it is dropped. Vertices, edges and faces have names, which are numbers, and a directory leads from each name
+//! to its slot. A store knows fields and links and nothing of what they are to mean: which vertices an edge joins is
+//! what was written there. The cycles stand in the crate above.
 //!
-//! Contracts see a store as [`Store`] says: for each pool the list of its slots, and for each directory the table of its
-//! names. Each writer changes the one field that it names.
+//! Contracts see a store as [`Store`] says: for each pool the list of its slots, and for each directory the table of
+//! its names. Each writer changes the one field that it names.
 //!
 //! | Call | Cost |
 //! |---|---|

@@ -17,10 +17,10 @@ pub const CHUNK: usize = 1024;
 
 /// Vertices, edges, loops and faces at their slots, and the directories of names.
 ///
-/// Contracts see for each kind of element the list of its slots, in which a slot holds a cell or is vacant. Its length is
-/// the number of places, and `spare_count` of it is the number of elements that can come without memory. For vertices,
-/// edges and faces they see besides the table of names, which gives the slot to which a name leads. Its length is the
-/// reach: names below it need no memory. No call shortens a list or a table.
+/// Contracts see for each kind of element the list of its slots, in which a slot holds a cell or is vacant. Its length
+/// is the number of places, and `spare_count` of it is the number of elements that can come without memory. For
+/// vertices, edges and faces they see besides the table of names, which gives the slot to which a name leads. Its
+/// length is the reach: names below it need no memory. No call shortens a list or a table.
 ///
 /// Only `reserve` takes memory.
 #[derive(Drop)]
@@ -61,12 +61,12 @@ impl Store {
         }
     }
 
-    /// Makes room for so many more elements of each kind, and for the names of vertices, edges and faces below the three
-    /// numbers of `reach`.
+    /// Makes room for so many more elements of each kind, and for the names of vertices, edges and faces below the
+    /// three numbers of `reach`.
     ///
-    /// Where there is room already, nothing changes. Otherwise a pool grows by less than what is asked and a chunk; with
-    /// these its places have to stay below 2^32. After an error, which is want of memory, some of the room may have been made,
-    /// and all elements and names are as they were. It takes time that grows with what is added.
+    /// Where there is room already, nothing changes. Otherwise a pool grows by less than what is asked and a chunk;
+    /// with these its places have to stay below 2^32. After an error, which is want of memory, some of the room may
+    /// have been made, and all elements and names are as they were. It takes time that grows with what is added.
     pub fn reserve(
         &mut self,
         verts: usize,
@@ -139,7 +139,9 @@ impl Store {
     pub fn add_loop(&mut self, vert: Slot, edge: Slot, face: Slot) -> Slot
         requires { 1 ≤ spare_count self.old.loops }
         ensures vacant { (result.0 < length self.old.loops) × (at self.old.loops result.0 ≡ None) }
-        ensures adds { self.new ≡ record self.old { loops = slice_set self.old.loops result.0 (Some (new_loop vert edge face result)) } }
+        ensures adds { self.new ≡ record self.old {
+          loops = slice_set self.old.loops result.0 (Some (new_loop vert edge face result));
+        } }
         ensures spare { spare_count self.new.loops + 1 ≡ spare_count self.old.loops }
     {
         let slot = self.loops.put(LoopCell::alone(vert, edge, face, Slot(0)));
@@ -206,8 +208,8 @@ impl Store {
     }
 }
 
-/// Names. `named` says that a table leads from the number of each live element to its slot, and from no other number; `few`
-/// says that each name of the table is a `u32`.
+/// Names. `named` says that a table leads from the number of each live element to its slot, and from no other number;
+/// `few` says that each name of the table is a `u32`.
 impl Store {
     /// The slot of a vertex's name, and `None` exactly where the name isn't live. Constant time.
     pub fn vert_slot(&self, name: u32) -> Option<Slot>
@@ -233,8 +235,8 @@ impl Store {
         self.faces.slot(name)
     }
 
-    /// The slot of the least live vertex name that isn't below `least`, and `None` exactly where there is none. It passes over
-    /// the names between.
+    /// The slot of the least live vertex name that isn't below `least`, and `None` exactly where there is none. It
+    /// passes over the names between.
     pub fn vert_from(&self, least: u32) -> Option<Slot>
         ensures slot { MatchOption result (NoneLiveFrom self.now.verts.names least) (LeadsFirst self.now.verts.names least) }
         ensures named { AreNamed (λ c. c.number) self.now.verts.cells self.now.verts.names }
@@ -243,8 +245,8 @@ impl Store {
         self.verts.slot_from(least)
     }
 
-    /// The slot of the least live edge name that isn't below `least`, and `None` exactly where there is none. It passes over
-    /// the names between.
+    /// The slot of the least live edge name that isn't below `least`, and `None` exactly where there is none. It passes
+    /// over the names between.
     pub fn edge_from(&self, least: u32) -> Option<Slot>
         ensures slot { MatchOption result (NoneLiveFrom self.now.edges.names least) (LeadsFirst self.now.edges.names least) }
         ensures named { AreNamed (λ c. c.number) self.now.edges.cells self.now.edges.names }
@@ -253,8 +255,8 @@ impl Store {
         self.edges.slot_from(least)
     }
 
-    /// The slot of the least live face name that isn't below `least`, and `None` exactly where there is none. It passes over
-    /// the names between.
+    /// The slot of the least live face name that isn't below `least`, and `None` exactly where there is none. It passes
+    /// over the names between.
     pub fn face_from(&self, least: u32) -> Option<Slot>
         ensures slot { MatchOption result (NoneLiveFrom self.now.faces.names least) (LeadsFirst self.now.faces.names least) }
         ensures named { AreNamed (λ c. c.number) self.now.faces.cells self.now.faces.names }

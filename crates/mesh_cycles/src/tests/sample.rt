@@ -365,7 +365,8 @@ impl Sample {
         loop_remove_counted(&mut self.st, face, first.0);
     }
 
-    /// Takes the second loop of a face with a wrong length out of the face's loop cycle; the only one, where there is one.
+    /// Takes the second loop of a face with a wrong length out of the face's loop cycle; the only one, where there is
+    /// one.
     pub fn take_second_corner(&mut self, rt: &impl Abort, face: u32)
         requires { IsSample self.old.st self.old.left self.old.reach }
         ensures { IsSample self.new.st self.new.left self.new.reach }

@@ -3,11 +3,6 @@ use Rattle.mesh_store.specs.declared.cells.Dart.{Dart}
 use Rattle.mesh_cycles.proofs.Besides.{disk_darts, disk_ends}
 use Rattle.mesh_cycles.proofs.TestStores.{dart_on, dart_there, PutsDart, grown_apart, sample_disk, whole_put}
 use Rattle.mesh_cycles.proofs.tests.sample.put_darts.Goals as goal
-use Rattle.mesh_cycles.proofs.tests.sample.put_darts.Goals.{After-disk_add}
-
--- the first dart is put
-puts : (c : After-disk_add) → PutsDart c.args.st.now c.disk_add.new.st c.args.from.0 (dart_on c.args.edge 0)
-puts c = record { own = c.disk_add.ensures.own; others = c.disk_add.ensures.others; rest = c.disk_add.ensures.rest }
 
 pub disk_add-requires-2-clause-dart : goal.disk_add-requires-2-clause-dart
 disk_add-requires-2-clause-dart c =
