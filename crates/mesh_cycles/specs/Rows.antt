@@ -4,6 +4,7 @@ use Rattle.std.specs.declared.option.Option.{Option}
 use Rattle.std.specs.declared.option.Option.TheVariants.{None, Some}
 use Rattle.raw_pool.specs.declared.pool.Slot.{Slot}
 use Rattle.mesh_store.specs.Stored.{Stored}
+use Rattle.mesh_store.specs.Rows.{slot, dart}
 use Rattle.mesh_store.specs.declared.cells.Dart.{Dart}
 use Rattle.mesh_store.specs.declared.cells.VertCell.{VertCell}
 use Rattle.mesh_store.specs.declared.cells.EdgeCell.{EdgeCell}
@@ -14,10 +15,6 @@ use Rattle.mesh_cycles.specs.Owners.{dart_end, edge_of, face_of}
 use Rattle.mesh_cycles.specs.Lists.{same_radial, without, with_behind}
 use Rattle.mesh_cycles.specs.Cycles.{IsCounted}
 use Rattle.mesh_cycles.specs.Found.{edges_around, loops_along, loops_in, loops_around, faces_along, faces_around, by_name, joins}
-
--- a slot
-abbrev pub slot : ℕ → Slot
-slot n = record { 0 = n }
 
 -- slots
 abbrev pub slots : List ℕ → List Slot
@@ -36,10 +33,6 @@ edge name a b first around_a around_b = Some (record {
   disk_a = record { next = around_a; prev = around_a };
   disk_b = record { next = around_b; prev = around_b };
 })
-
--- a dart
-abbrev pub dart : ℕ → ℕ → Dart
-dart e side = record { edge = slot e; side = side }
 
 -- a loop with the loops after and before it around its edge, and the loop on both sides of it in its face
 abbrev pub corner : ℕ → ℕ → ℕ → ℕ → ℕ → ℕ → Option LoopCell

@@ -69,7 +69,7 @@ pub(crate) fn no_loops(st: &Store) -> LoopsOfEdge<'_>
 /// An iterator over the faces along an edge, which [`faces_of_edge`] makes.
 ///
 /// After the last face it answers `None` for ever. An item takes time that grows with the loops passed over and the
-/// corners of their faces. A loop that isn't its face's only one along the edge, or isn't in the face's own cycle,
+/// corners of their faces. Each further loop of a face along the edge, and each loop that isn't in its face's own cycle,
 /// takes one more walk along the edge.
 #[derive(Drop)]
 #[must_use]

@@ -135,8 +135,8 @@ fn next_standing(st: &Store, v: Slot, loops: &mut LoopsOfEdge<'_>) -> Option<Slo
 /// An iterator over the faces around a vertex, which [`faces_of_vert`] makes.
 ///
 /// After the last face it answers `None` for ever. An item takes time that grows with the loops passed over and the
-/// corners of their faces. A loop that isn't its face's only one at the vertex, or isn't in the face's own cycle, takes
-/// one more walk around the vertex.
+/// corners of their faces. Each further loop of a face at the vertex, and each loop that isn't in its face's own cycle,
+/// takes one more walk around the vertex.
 #[derive(Drop)]
 #[must_use]
 pub struct FacesOfVert<'a> {
