@@ -1,0 +1,8 @@
+-- Clauses on one kind of answer.
+
+use Rattle.std.specs.Prelude.{Result, Ok, Err, OnErr}
+
+-- what holds anyway holds on an error
+pub on_err : {T E P : Type 0} (r : Result T E) → P → OnErr r P
+on_err (Ok x) p = tt
+on_err (Err e) p = p

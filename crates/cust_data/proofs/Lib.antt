@@ -1,0 +1,12 @@
+pub mod Adding
+pub mod Answering
+pub mod Columns
+pub mod Finding
+pub mod Floors
+pub mod Growing
+pub mod MixedCells
+pub mod Mixes
+pub mod PutRows
+pub mod Tables
+pub mod Widths
+pub mod Written

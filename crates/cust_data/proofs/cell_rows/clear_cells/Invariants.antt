@@ -1,0 +1,8 @@
+use Rattle.std.proofs.Common.{◌≡◌}
+use Rattle.cust_data.specs.Layers.{zeros}
+use Rattle.cust_data.specs.Filled.{Filled, with_cell}
+use Rattle.cust_data.proofs.Columns.{changed_to}
+use Rattle.cust_data.proofs.cell_rows.clear_cells.Given as goal
+
+abbrev pub invariant-loop-column : goal.invariant-loop-column
+invariant-loop-column l = l.columns ≡ changed_to (λ (c : Filled). with_cell c l.place (zeros c.layer.width)) l.column-index l.initial.columns

@@ -1,0 +1,8 @@
+use Rattle.std.proofs.Common.{◌≡◌}
+use Rattle.cust_data.specs.Filled.{Filled, cell_at, with_cell}
+use Rattle.cust_data.specs.Mixing.{mix_cell_by}
+use Rattle.cust_data.proofs.Columns.{changed_to}
+use Rattle.cust_data.proofs.cell_rows.mix_cells.Given as goal
+
+abbrev pub invariant-loop-column : goal.invariant-loop-column
+invariant-loop-column l = l.columns ≡ changed_to (λ (c : Filled). with_cell c l.to (mix_cell_by c.layer.rule (cell_at c l.a) (cell_at c l.b) l.num l.den)) l.column-index l.initial.columns
