@@ -4,4 +4,3 @@ pub mod Changes
 pub mod Walk
 pub mod Mapped
 pub mod Limits
-pub mod TwoLists

@@ -21,8 +21,6 @@
 
 mod iter;
 mod ring;
-#[cfg(test)]
-mod tests;
 mod traits;
 
 pub use iter::{RingIter, walk};

@@ -9,12 +9,13 @@ use Rattle.mesh_store.specs.Slots.{at, changed}
 use Rattle.mesh_store.specs.Stored.{Stored, dart_links, with_first_edge, with_first_loop, without_disk, without_radial, without_round}
 use Rattle.mesh_store.specs.Room.{HasRoom}
 use Rattle.mesh_store.specs.declared.cells.Dart.{Dart}
+use Rattle.mesh_store.specs.declared.cells.VertCell.{VertCell}
 use Rattle.mesh_store.specs.declared.cells.EdgeCell.{EdgeCell}
 use Rattle.mesh_store.specs.declared.cells.LoopCell.{LoopCell}
 use Rattle.mesh_store.specs.declared.cells.FaceCell.{FaceCell}
 use Rattle.mesh_cycles.specs.Owners.{end_on, dart_end, edge_of, face_of, len_of}
-use Rattle.mesh_cycles.specs.Edits.{bare_face, beside_disk, beside_radial, beside_round}
-use Rattle.mesh_cycles.proofs.Cells.{told, changed_beside, changed_elsewhere}
+use Rattle.mesh_cycles.specs.Edits.{bare_vert, bare_edge, bare_loop, bare_face, bare, beside_disk, beside_radial, beside_round}
+use Rattle.mesh_cycles.proofs.Cells.{told, covered, changed_beside, changed_elsewhere}
 
 -- ---- one pool
 
@@ -44,6 +45,14 @@ pool_along {X} e = record { live = λ s. ap (λ (xs : List (Option X)). holds (a
 one_beside : {X : Type 0} (g f : X → X) → ((x : X) → f (g x) ≡ f x) → (old new : List (Option X)) (s : ℕ) → changed g new s ≡ changed g old s → map (option_map f) new ≡ map (option_map f) old
 one_beside {X} g f covers old new s e =
     sym (changed_beside g f covers new s) ∙ ap (λ (xs : List (Option X)). map (option_map f) xs) e ∙ changed_beside g f covers old s
+
+-- what f makes one, g makes one that covers f
+covered_by : {X : Type 0} (f g : X → X) → ((x : X) → g (f x) ≡ g x) → (old new : List (Option X)) → map (option_map f) new ≡ map (option_map f) old → map (option_map g) new ≡ map (option_map g) old
+covered_by {X} f g covers old new e = sym (fused new) ∙ ap (λ (xs : List (Option X)). map (option_map g) xs) e ∙ fused old
+  where
+    fused : (xs : List (Option X)) → map (option_map g) (map (option_map f) xs) ≡ map (option_map g) xs
+    fused [] = refl
+    fused (x ∷ xs) = λ i. covered f g covers x i ∷ fused xs i
 
 -- ---- a store
 
@@ -82,10 +91,10 @@ still_room {old} {new} {verts} {edges} {corners} {faces} {reach} p r =
 -- ---- beside a disk cycle
 
 module _ (old new : Stored) (v : ℕ) (rest : beside_disk new v ≡ beside_disk old v) where
-  disk_verts : map (option_map (with_first_edge None)) new.verts.cells ≡ map (option_map (with_first_edge None)) old.verts.cells
+  pub disk_verts : map (option_map (with_first_edge None)) new.verts.cells ≡ map (option_map (with_first_edge None)) old.verts.cells
   disk_verts = one_beside (with_first_edge None) (with_first_edge None) (λ c. refl) old.verts.cells new.verts.cells v (ap (λ (t : Stored). t.verts.cells) rest)
 
-  disk_edges : map (option_map without_disk) new.edges.cells ≡ map (option_map without_disk) old.edges.cells
+  pub disk_edges : map (option_map without_disk) new.edges.cells ≡ map (option_map without_disk) old.edges.cells
   disk_edges = ap (λ (t : Stored). t.edges.cells) rest
 
   pub disk_pools : SamePools old new
@@ -111,13 +120,25 @@ module _ (old new : Stored) (v : ℕ) (rest : beside_disk new v ≡ beside_disk 
   pub disk_lens : (f : ℕ) → len_of new f ≡ len_of old f
   disk_lens f = ap (λ (t : Stored). len_of t f) rest
 
+  -- so is everything but cycles
+  pub disk_bare : bare new ≡ bare old
+  disk_bare =
+      let edges = covered_by without_disk bare_edge (λ c. refl) old.edges.cells new.edges.cells disk_edges in
+      λ i. record {
+        verts = record { cells = disk_verts i; names = (rest i).verts.names };
+        edges = record { cells = edges i; names = (rest i).edges.names };
+        loops = map (option_map bare_loop) (rest i).loops;
+        faces = record { cells = map (option_map bare_face) (rest i).faces.cells; names = (rest i).faces.names };
+        values = (rest i).values;
+      }
+
 -- ---- beside a radial cycle
 
 module _ (old new : Stored) (e : ℕ) (rest : beside_radial new e ≡ beside_radial old e) where
-  radial_loops : map (option_map without_radial) new.loops ≡ map (option_map without_radial) old.loops
+  pub radial_loops : map (option_map without_radial) new.loops ≡ map (option_map without_radial) old.loops
   radial_loops = ap (λ (t : Stored). t.loops) rest
 
-  radial_edges : map (option_map (with_first_loop None)) new.edges.cells ≡ map (option_map (with_first_loop None)) old.edges.cells
+  pub radial_edges : map (option_map (with_first_loop None)) new.edges.cells ≡ map (option_map (with_first_loop None)) old.edges.cells
   radial_edges = one_beside (with_first_loop None) (with_first_loop None) (λ c. refl) old.edges.cells new.edges.cells e (ap (λ (t : Stored). t.edges.cells) rest)
 
   pub radial_pools : SamePools old new
@@ -143,13 +164,26 @@ module _ (old new : Stored) (e : ℕ) (rest : beside_radial new e ≡ beside_rad
   pub radial_lens : (f : ℕ) → len_of new f ≡ len_of old f
   radial_lens f = ap (λ (t : Stored). len_of t f) rest
 
+  -- so is everything but cycles
+  pub radial_bare : bare new ≡ bare old
+  radial_bare =
+      let edges = covered_by (with_first_loop None) bare_edge (λ c. refl) old.edges.cells new.edges.cells radial_edges in
+      let loops = covered_by without_radial bare_loop (λ c. refl) old.loops new.loops radial_loops in
+      λ i. record {
+        verts = record { cells = map (option_map bare_vert) (rest i).verts.cells; names = (rest i).verts.names };
+        edges = record { cells = edges i; names = (rest i).edges.names };
+        loops = loops i;
+        faces = record { cells = map (option_map bare_face) (rest i).faces.cells; names = (rest i).faces.names };
+        values = (rest i).values;
+      }
+
 -- ---- beside a loop cycle
 
 module _ (old new : Stored) (f : ℕ) (rest : beside_round new f ≡ beside_round old f) where
-  round_loops : map (option_map without_round) new.loops ≡ map (option_map without_round) old.loops
+  pub round_loops : map (option_map without_round) new.loops ≡ map (option_map without_round) old.loops
   round_loops = ap (λ (t : Stored). t.loops) rest
 
-  round_faces : map (option_map bare_face) new.faces.cells ≡ map (option_map bare_face) old.faces.cells
+  pub round_faces : map (option_map bare_face) new.faces.cells ≡ map (option_map bare_face) old.faces.cells
   round_faces = one_beside bare_face bare_face (λ c. refl) old.faces.cells new.faces.cells f (ap (λ (t : Stored). t.faces.cells) rest)
 
   pub round_pools : SamePools old new
@@ -172,3 +206,46 @@ module _ (old new : Stored) (f : ℕ) (rest : beside_round new f ≡ beside_roun
   round_lens g ne =
       let other = λ (t : Stored). changed_elsewhere bare_face t.faces.cells f g ne in
       ap (option_map (λ (c : FaceCell). c.len)) (sym (other new) ∙ ap (λ (t : Stored). at t.faces.cells g) rest ∙ other old)
+
+  -- so is everything but cycles
+  pub round_bare : bare new ≡ bare old
+  round_bare =
+      let loops = covered_by without_round bare_loop (λ c. refl) old.loops new.loops round_loops in
+      λ i. record {
+        verts = record { cells = map (option_map bare_vert) (rest i).verts.cells; names = (rest i).verts.names };
+        edges = record { cells = map (option_map bare_edge) (rest i).edges.cells; names = (rest i).edges.names };
+        loops = loops i;
+        faces = record { cells = round_faces i; names = (rest i).faces.names };
+        values = (rest i).values;
+      }
+
+-- ---- what a bare store tells
+
+module _ (old new : Stored) (e : bare new ≡ bare old) where
+  -- of each vertex all but its first edge
+  pub bare_vert_told : {Z : Type 0} (g : Option VertCell → Z) → ((c : VertCell) → g (Some c) ≡ g (Some (bare_vert c))) → (s : ℕ) → g (at new.verts.cells s) ≡ g (at old.verts.cells s)
+  bare_vert_told g same s = told bare_vert g same old.verts.cells new.verts.cells (ap (λ (t : Stored). t.verts.cells) e) s
+
+  -- of each edge all but its disk links and its first loop
+  pub bare_edge_told : {Z : Type 0} (g : Option EdgeCell → Z) → ((c : EdgeCell) → g (Some c) ≡ g (Some (bare_edge c))) → (s : ℕ) → g (at new.edges.cells s) ≡ g (at old.edges.cells s)
+  bare_edge_told g same s = told bare_edge g same old.edges.cells new.edges.cells (ap (λ (t : Stored). t.edges.cells) e) s
+
+  -- of each loop its vertex, its edge and its face
+  pub bare_loop_told : {Z : Type 0} (g : Option LoopCell → Z) → ((c : LoopCell) → g (Some c) ≡ g (Some (bare_loop c))) → (s : ℕ) → g (at new.loops s) ≡ g (at old.loops s)
+  bare_loop_told g same s = told bare_loop g same old.loops new.loops (ap (λ (t : Stored). t.loops) e) s
+
+  -- of each face its number
+  pub bare_face_told : {Z : Type 0} (g : Option FaceCell → Z) → ((c : FaceCell) → g (Some c) ≡ g (Some (bare_face c))) → (s : ℕ) → g (at new.faces.cells s) ≡ g (at old.faces.cells s)
+  bare_face_told g same s = told bare_face g same old.faces.cells new.faces.cells (ap (λ (t : Stored). t.faces.cells) e) s
+
+  -- the live places, their number and the names
+  pub bare_pools : SamePools old new
+  bare_pools = record {
+    verts = pool_beside bare_vert (ap (λ (t : Stored). t.verts.cells) e);
+    edges = pool_beside bare_edge (ap (λ (t : Stored). t.edges.cells) e);
+    loops = pool_beside bare_loop (ap (λ (t : Stored). t.loops) e);
+    faces = pool_beside bare_face (ap (λ (t : Stored). t.faces.cells) e);
+    vert_names = ap (λ (t : Stored). t.verts.names) e;
+    edge_names = ap (λ (t : Stored). t.edges.names) e;
+    face_names = ap (λ (t : Stored). t.faces.names) e;
+  }

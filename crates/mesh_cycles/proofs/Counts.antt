@@ -11,10 +11,11 @@ use Rattle.mesh_store.specs.declared.cells.Round.{Round}
 use Rattle.mesh_store.specs.declared.cells.FaceCell.{FaceCell}
 use Rattle.mesh_cycles.specs.Owners.{face_of}
 use Rattle.mesh_cycles.specs.Cycles.{AreCycles, round_of, IsCounted}
-use Rattle.mesh_cycles.specs.Edits.{bare_face, beside_round}
+use Rattle.mesh_cycles.specs.Edits.{EditsRound, bare_face, beside_round}
+use Rattle.mesh_cycles.proofs.Besides.{round_bare}
 use Rattle.mesh_cycles.proofs.Cells.{live_cell, changed_here, changed_over}
 use Rattle.mesh_cycles.proofs.Elements.{face_len_written}
-use Rattle.mesh_cycles.proofs.Stays.{SameCycles}
+use Rattle.mesh_cycles.specs.Adds.{SameCycles}
 
 -- a face's length is now the number of its loops, and all else stays
 pub record IsRecounted (old new : Stored) (f : ℕ) : Type 0 where
@@ -55,3 +56,18 @@ same_through {old} {mid} {f} new ls c o =
     let P = λ (m : LinkMap Round). SameOutside m (round_links new) (ls (round_of old f)) in
     let Q = λ (rs : List Round). SameOutside (round_links mid) (round_links new) (ls rs) in
     subst P c.links (subst Q (c.same.rounds f) o)
+
+-- an edit after the count is one of the store before it
+pub edited_through : {old mid : Stored} {f : ℕ} (new : Stored) (touched now : List Round → List Round) → IsRecounted old mid f
+    → EditsRound mid new f (touched (round_of mid f)) (now (round_of mid f)) → EditsRound old new f (touched (round_of old f)) (now (round_of old f))
+edited_through {old} {mid} {f} new touched now c e = record {
+  own = e.own ∙ ap now (c.same.rounds f);
+  len = e.len;
+  links = same_through new touched c e.links;
+  disks = λ v. e.disks v ∙ c.same.disks v;
+  radials = λ d. e.radials d ∙ c.same.radials d;
+  others = λ g ne. e.others g ne ∙ c.same.rounds g;
+  rest = e.rest ∙ c.rest;
+  stays = e.stays ∙ round_bare old mid f c.rest;
+  cycles = e.cycles;
+}

@@ -21,9 +21,10 @@ use Rattle.mesh_store.specs.declared.cells.EdgeCell.{EdgeCell}
 use Rattle.mesh_cycles.specs.Owners.{end_on, side_at, dart_at, dart_end, first_dart, first_radial}
 use Rattle.mesh_cycles.specs.Lists.{same_dart, same_radial, same_round, without}
 use Rattle.mesh_cycles.specs.Cycles.{AreCycles, disk_of, IsInNoDisk, EndsDiffer}
-use Rattle.mesh_cycles.specs.Edits.{SameDisksBut, SameRadials, SameRounds, beside_disk}
+use Rattle.mesh_cycles.specs.Edits.{SameDisksBut, SameRadials, SameRounds, beside_disk, EditsDisk}
 use Rattle.mesh_cycles.proofs.CycleKinds.{Kind, Holds, Changes, cycle_at, own_cycle, other_cycles, still_holds, in_none, near_more, last_more}
 use Rattle.mesh_cycles.proofs.RingLists.{parted}
+use Rattle.mesh_cycles.proofs.Besides.{disk_bare}
 use Rattle.mesh_cycles.proofs.Cells.{told, changed_over, live_cell, changed_here, changed_elsewhere}
 use Rattle.mesh_cycles.proofs.Frames.{differ_along, disk_kind, radial_kind, round_kind, disks_hold, radials_hold, rounds_hold, are_cycles, dart_test}
 
@@ -46,17 +47,6 @@ dart_back st v d differ e low = λ i. record { edge = d.edge; side = side_back (
 firsts_back : (f : Slot → Dart) (xs : List Dart) → ((d : Dart) → HasMember xs d → f d.edge ≡ d) → option_map f (option_map (λ (d : Dart). d.edge) (first_of xs)) ≡ first_of xs
 firsts_back f [] h = refl
 firsts_back f (x ∷ xs) h = ap (λ (d : Dart). Some d) (h x (inl refl))
-
--- ---- what the clauses of a call say
-
-pub record DiskEdited (old new : Stored) (v : ℕ) (touched now : List Dart) : Type 0 where
-  pub own : disk_of new v ≡ now
-  pub links : SameOutside (dart_links old) (dart_links new) touched
-  pub others : SameDisksBut v old new
-  pub radials : SameRadials old new
-  pub rounds : SameRounds old new
-  pub rest : beside_disk new v ≡ beside_disk old v
-  pub cycles : AreCycles new
 
 -- ---- a write
 
@@ -165,7 +155,7 @@ module _ {old mid new : Stored} {v : ℕ} {head : Option Dart} (w : WritesDisk o
       }
 
   -- what follows of all cycles
-  disk_edited : {touched now : List Dart} → AreCycles old → Changes (disk_kind old) (disk_kind new) v touched now → DiskEdited old new v touched now
+  disk_edited : {touched now : List Dart} → AreCycles old → Changes (disk_kind old) (disk_kind new) v touched now → EditsDisk old new v touched now
   disk_edited h c =
       let disks = disks_hold old h in
       record {
@@ -175,6 +165,7 @@ module _ {old mid new : Stored} {v : ℕ} {head : Option Dart} (w : WritesDisk o
         radials = λ e. ap (λ (k : Kind Radial). cycle_at same_radial k e) radials_stay;
         rounds = λ f. ap (λ (k : Kind Round). cycle_at same_round k f) rounds_stay;
         rest = disk_beside;
+        stays = disk_bare old new v disk_beside;
         cycles = are_cycles new (still_holds same_dart dart_test disks c) (subst (Holds same_radial) (sym radials_stay) (radials_hold old h))
             (subst (Holds same_round) (sym rounds_stay) (rounds_hold old h)) (differ_still h.differ);
       }
@@ -185,7 +176,7 @@ module _ {old mid new : Stored} {v : ℕ} {head : Option Dart} (w : WritesDisk o
 pub disk_added : (old mid new : Stored) (v : ℕ) (d : Dart) {first head : Option Dart} → AreCycles old → IsLive old.verts.cells v → dart_end old d ≡ Some v
     → first ≡ first_dart old v → (reads : (xs : List Dart) → ReadsAs (dart_links old) first xs → ReadsAs (dart_links mid) head (xs ++ d ∷ []))
     → (others : (xs : List Dart) → ReadsAs (dart_links old) first xs → SameOutside (dart_links old) (dart_links mid) (d ∷ xs))
-    → WritesDisk old mid new v head → DiskEdited old new v (d ∷ disk_of old v) (disk_of old v ++ d ∷ [])
+    → WritesDisk old mid new v head → EditsDisk old new v (d ∷ disk_of old v) (disk_of old v ++ d ∷ [])
 disk_added old mid new v d h live end is reads others w =
     let disks = disks_hold old h in let r = reads_at (h.disks v) (sym is) in
     disk_edited w h (disk_changes w (d ∷ disk_of old v) (disk_of old v ++ d ∷ []) live h.differ (reads (disk_of old v) r) (others (disk_of old v) r)
@@ -195,10 +186,10 @@ disk_added old mid new v d h live end is reads others w =
 pub disk_removed : (old mid new : Stored) (v : ℕ) (d : Dart) {first head : Option Dart} → AreCycles old → IsLive old.verts.cells v → HasMember (disk_of old v) d
     → first ≡ first_dart old v → (reads : (xs ys : List Dart) → ReadsAs (dart_links old) first (xs ++ d ∷ ys) → ReadsAs (dart_links mid) head (xs ++ ys))
     → (others : (xs : List Dart) → ReadsAs (dart_links old) first xs → SameOutside (dart_links old) (dart_links mid) xs)
-    → WritesDisk old mid new v head → DiskEdited old new v (disk_of old v) (without same_dart d (disk_of old v)) × IsInNoDisk new d
+    → WritesDisk old mid new v head → EditsDisk old new v (disk_of old v) (without same_dart d (disk_of old v)) × IsInNoDisk new d
 disk_removed old mid new v d h live member is reads others w =
     let disks = disks_hold old h in let r = reads_at (h.disks v) (sym is) in let s = parted same_dart dart_test d (h.disks v) member in
     let c = disk_changes w (disk_of old v) (s.before ++ s.after) live h.differ (reads s.before s.after (reads_along r s.whole)) (others (disk_of old v) r)
     (disks.owned v) (λ j m. disks.owned v j (s.within j m)) in
-    let P = DiskEdited old new v (disk_of old v) in
+    let P = EditsDisk old new v (disk_of old v) in
     (subst P (sym s.less) (disk_edited w h c), in_none same_dart dart_test disks c d (h.disk_ends v d member) s.out)

@@ -13,7 +13,7 @@ use Rattle.link_ring.proofs.Members.{member_of}
 use Rattle.mesh_store.specs.Limits.{is_dart}
 use Rattle.mesh_store.specs.Slots.{at}
 use Rattle.mesh_store.specs.Naming.{NamedCells, without_cell}
-use Rattle.mesh_store.specs.Stored.{Stored, dart_links, radial_links, round_links, new_vert, new_edge, new_loop, new_face, no_slot, with_point, with_ends, with_loop_vert, with_loop_edge, with_loop_face, with_face_len, change_vert, change_edge, change_loop, change_face}
+use Rattle.mesh_store.specs.Stored.{Stored, empty_store, dart_links, radial_links, round_links, new_vert, new_edge, new_loop, new_face, no_slot, with_point, with_ends, with_loop_vert, with_loop_edge, with_loop_face, with_face_len, change_vert, change_edge, change_loop, change_face}
 use Rattle.mesh_store.specs.Room.{WidensStore}
 use Rattle.mesh_store.specs.declared.cells.Dart.{Dart}
 use Rattle.mesh_store.specs.declared.cells.Radial.{Radial}
@@ -27,15 +27,16 @@ use Rattle.mesh_store.proofs.Places.{written, unwritten}
 use Rattle.mesh_cycles.specs.Owners.{end_on, dart_at, first_radial, first_round}
 use Rattle.mesh_cycles.specs.Lists.{ring_list, same_dart, same_radial, same_round}
 use Rattle.mesh_cycles.specs.Cycles.{AreCycles, disk_of, radial_of, round_of, IsInNoDisk, IsInNoRadial, IsInNoRound, EndsDiffer}
+use Rattle.mesh_cycles.specs.Adds.{SameCycles, AddsVert, AddsEdge, AddsLoop, AddsFace}
 use Rattle.mesh_cycles.proofs.RingLists.{member_key}
 use Rattle.mesh_cycles.proofs.Cells.{covered}
 use Rattle.mesh_cycles.proofs.Rounds.{face_loop_in}
-use Rattle.mesh_cycles.proofs.Stays.{radial_part, round_part, SameCycles, same_cycles, first_edge_in, first_by, empty_first}
+use Rattle.mesh_cycles.proofs.Stays.{radial_part, round_part, same_cycles, first_edge_in, first_by, empty_first}
 
 -- ---- one cell of a pool
 
 -- what g tells of each cell stays where one is written of which it tells the same
-told_set : {X Z : Type 0} (g : Option X → Z) (xs : List (Option X)) (s : ℕ) (o : Option X) → g o ≡ g (at xs s) → (t : ℕ) → g (at (slice_set xs s o) t) ≡ g (at xs t)
+pub told_set : {X Z : Type 0} (g : Option X → Z) (xs : List (Option X)) (s : ℕ) (o : Option X) → g o ≡ g (at xs s) → (t : ℕ) → g (at (slice_set xs s o) t) ≡ g (at xs t)
 told_set g [] s o e t = refl
 told_set g (x ∷ xs) zero o e zero = e
 told_set g (x ∷ xs) zero o e (suc t) = refl
@@ -43,7 +44,7 @@ told_set g (x ∷ xs) (suc s) o e zero = refl
 told_set g (x ∷ xs) (suc s) o e (suc t) = told_set g xs s o e t
 
 -- the two ends of an edge differ, where they do in the one that is written
-differ_set : (xs : List (Option EdgeCell)) (s : ℕ) (o : Option EdgeCell) → ((c : EdgeCell) → o ≡ Some c → end_on 0 c ≢ end_on 1 c) → EndsDiffer xs → EndsDiffer (slice_set xs s o)
+pub differ_set : (xs : List (Option EdgeCell)) (s : ℕ) (o : Option EdgeCell) → ((c : EdgeCell) → o ≡ Some c → end_on 0 c ≢ end_on 1 c) → EndsDiffer xs → EndsDiffer (slice_set xs s o)
 differ_set [] s o p d e c is = d e c is
 differ_set (x ∷ xs) zero o p d zero c is = p c is
 differ_set (x ∷ xs) zero o p d (suc e) c is = d (suc e) c is
@@ -61,7 +62,7 @@ none_mapped f (Some x) e = cc
 
 -- ---- an empty store
 
-pub empty_cycles : (st : Stored) → st ≡ record { verts = record { cells = []; names = [] }; edges = record { cells = []; names = [] }; loops = []; faces = record { cells = []; names = [] } } → AreCycles st
+pub empty_cycles : (st : Stored) → st ≡ empty_store → AreCycles st
 empty_cycles st e = subst AreCycles (sym e) (record {
   disks = λ v. record { ring = tt; start = refl };
   radials = λ v. record { ring = tt; start = refl };
@@ -133,7 +134,7 @@ module _ (old : Stored) (h : AreCycles old) where
   })
 
 -- the radial cycle with which an edge begins
-abbrev first_loop_in : Option EdgeCell → Option Radial
+abbrev pub first_loop_in : Option EdgeCell → Option Radial
 first_loop_in = option_and_then (λ (c : EdgeCell). option_map (λ (l : Slot). record { 0 = l }) c.first_loop)
 
 -- ---- what is in no cycle is no member
@@ -150,37 +151,9 @@ not_round st s none f l m p = let P = HasMember (round_of st f) in none f (subst
 -- ---- what a write of one field leaves
 
 -- the ends of an edge that were written differ
-ends_differ : (to : List Slot) (o : Option EdgeCell) → (slice_index_or to 0 no_slot).0 ≢ (slice_index_or to 1 no_slot).0 → (c : EdgeCell) → option_map (with_ends to) o ≡ Some c → end_on 0 c ≢ end_on 1 c
+pub ends_differ : (to : List Slot) (o : Option EdgeCell) → (slice_index_or to 0 no_slot).0 ≢ (slice_index_or to 1 no_slot).0 → (c : EdgeCell) → option_map (with_ends to) o ≡ Some c → end_on 0 c ≢ end_on 1 c
 ends_differ to None n c e = absurd (let q : None ≡ Some c = e in cc)
 ends_differ to (Some b) n c e = let Q = λ (x : EdgeCell). end_on 0 x ≢ end_on 1 x in subst Q (same_Some _ _ e) n
-
--- ---- what an added element has
-
--- the vertex is there, and has no edge
-pub record AddsVert (old new : Stored) (s : Slot) (c : VertCell) : Type 0 where
-  pub same : SameCycles old new
-  pub there : at new.verts.cells s.0 ≡ Some c
-  pub empty : disk_of new s.0 ≡ []
-
--- the edge is there and has no loop, and its darts are in no cycle
-pub record AddsEdge (old new : Stored) (s : Slot) (c : EdgeCell) : Type 0 where
-  pub same : SameCycles old new
-  pub there : at new.edges.cells s.0 ≡ Some c
-  pub alone : (side : ℕ) → IsInNoDisk new (record { edge = s; side = side })
-  pub empty : radial_of new s.0 ≡ []
-
--- the loop is there, and in no cycle
-pub record AddsLoop (old new : Stored) (s : Slot) (c : LoopCell) : Type 0 where
-  pub same : SameCycles old new
-  pub there : at new.loops s.0 ≡ Some c
-  pub no_radial : IsInNoRadial new s
-  pub no_round : IsInNoRound new s
-
--- the face is there, and has no loop
-pub record AddsFace (old new : Stored) (s : Slot) (c : FaceCell) : Type 0 where
-  pub same : SameCycles old new
-  pub there : at new.faces.cells s.0 ≡ Some c
-  pub empty : round_of new s.0 ≡ []
 
 module _ (old new : Stored) (s : Slot) (h : AreCycles old) where
   -- ---- an element is added
@@ -347,11 +320,11 @@ at_grown {X} {old} {new} g t = ap (λ (xs : List (Option X)). at xs t) g.same �
 
 pub room_made : (old new : Stored) (verts edges corners faces chunk : ℕ) (reach : List ℕ) → AreCycles old → WidensStore old new verts edges corners faces chunk reach → SameCycles old new
 room_made old new verts edges corners faces chunk reach h w = same_cycles old new h (record {
-  first_edges = λ v. ap first_edge_in (at_grown w.verts.cells v);
-  first_loops = λ e. ap first_loop_in (at_grown w.edges.cells e);
-  face_loops = λ f. ap face_loop_in (at_grown w.faces.cells f);
-  darts = λ v d m. at_grown w.edges.cells d.edge.0;
-  radials = λ e l m. ap (option_map radial_part) (at_grown w.loops l.0.0);
-  rounds = λ f l m. ap (option_map round_part) (at_grown w.loops l.0.0);
-  differ = λ e c is. h.differ e c (sym (at_grown w.edges.cells e) ∙ is);
+  first_edges = λ v. ap first_edge_in (at_grown w.verts.cells.grows v);
+  first_loops = λ e. ap first_loop_in (at_grown w.edges.cells.grows e);
+  face_loops = λ f. ap face_loop_in (at_grown w.faces.cells.grows f);
+  darts = λ v d m. at_grown w.edges.cells.grows d.edge.0;
+  radials = λ e l m. ap (option_map radial_part) (at_grown w.loops.grows l.0.0);
+  rounds = λ f l m. ap (option_map round_part) (at_grown w.loops.grows l.0.0);
+  differ = λ e c is. h.differ e c (sym (at_grown w.edges.cells.grows e) ∙ is);
 })

@@ -1,5 +1,5 @@
 -- The least-named of some edges that joins two vertices.
-use Rattle.std.proofs.Common.{◌≡◌, ℕ, ◌≤◌, ◌<◌, ◌==◌, ◌&&◌, ◌||◌, true, false, List, [], ◌∷◌, ◌++◌, Option, Some, None, refl, sym, ap, ◌∙◌, subst, inl, inr, arith}
+use Rattle.std.proofs.Common.{◌≡◌, ℕ, ◌≤◌, ◌<◌, ◌==◌, ◌&&◌, ◌||◌, Bool, true, false, List, [], ◌∷◌, ◌++◌, Option, Some, None, refl, sym, ap, ◌∙◌, subst, inl, inr, arith}
 use Rattle.std.specs.Prelude.{MatchOption, IfSome}
 use Rattle.std.specs.Option.{option_map_or}
 use Rattle.std.proofs.lemmas.Bool.{and_parts, false≢true, or_cases, cases_lt, eqb-true}
@@ -98,3 +98,26 @@ least_changes st a b seen (Some x) e y n h = record {
 pub least_around : (st : Stored) (a b : ℕ) (o : Option Slot) → HasWholeDisk st a → IsLeast st a b (edges_around st a) o → MatchOption o (NoneJoins st a b) (JoinsFirst st a b)
 least_around st a b None w h = λ e j. h e (joins_around st a b e w j) j
 least_around st a b (Some x) w h = record { joined = h.joined; least = λ k j. h.least k (joins_around st a b k w j) j }
+
+-- ---- the other way round
+
+-- an edge joins two vertices both ways
+pub joins_flipped : (st : Stored) (a b : ℕ) (e : Slot) → joins st a b e ≡ joins st b a e
+joins_flipped st a b e = by_cell (at st.edges.cells e.0)
+  where
+    flip : (p q : Bool) → (p || q) ≡ (q || p)
+    flip true true = refl
+    flip true false = refl
+    flip false true = refl
+    flip false false = refl
+
+    by_cell : (o : Option EdgeCell)
+        → option_map_or (λ (c : EdgeCell). ((end_on 0 c == a) && (end_on 1 c == b)) || ((end_on 0 c == b) && (end_on 1 c == a))) o false
+        ≡ option_map_or (λ (c : EdgeCell). ((end_on 0 c == b) && (end_on 1 c == a)) || ((end_on 0 c == a) && (end_on 1 c == b))) o false
+    by_cell None = refl
+    by_cell (Some c) = flip ((end_on 0 c == a) && (end_on 1 c == b)) ((end_on 0 c == b) && (end_on 1 c == a))
+
+-- so the least-named edge from one to the other is that from the other to the one
+pub found_flipped : (st : Stored) (a b : ℕ) (o : Option Slot) → MatchOption o (NoneJoins st b a) (JoinsFirst st b a) → MatchOption o (NoneJoins st a b) (JoinsFirst st a b)
+found_flipped st a b None h = λ e j. h e (sym (joins_flipped st a b e) ∙ j)
+found_flipped st a b (Some x) h = record { joined = joins_flipped st a b x ∙ h.joined; least = λ k j. h.least k (sym (joins_flipped st a b k) ∙ j) }

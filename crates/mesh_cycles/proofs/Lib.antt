@@ -14,6 +14,9 @@ pub mod ByName
 pub mod Leaders
 pub mod Faces
 pub mod Besides
-pub mod TestStores
 pub mod LoopCalls
 pub mod Counts
+pub mod Ends
+pub mod Turns
+pub mod Reverses
+pub mod Cleared

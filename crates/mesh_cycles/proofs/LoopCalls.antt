@@ -1,7 +1,7 @@
 -- The calls on loop cycles.
 --
 -- A lemma on a call takes what the calls in its body ensure as it stands there.
-use Rattle.std.proofs.Common.{◌≡◌, ◌≤◌, ◌+◌, ◌-◌, ℕ, IsTrue, is_some, List, [], ◌∷◌, ◌++◌, Option, Some, None, length, refl, sym, ap, ◌∙◌, subst, arith}
+use Rattle.std.proofs.Common.{◌≡◌, ◌≤◌, ◌+◌, ◌-◌, ℕ, IsTrue, is_some, List, [], ◌∷◌, ◌++◌, Option, Some, None, length, refl, sym, ap, ◌∙◌, subst, arith, length-append}
 use Rattle.std.specs.Option.{option_map}
 use Rattle.std.proofs.lemmas.Option.{same_Some}
 use Rattle.raw_pool.specs.declared.pool.Slot.{Slot}
@@ -20,11 +20,12 @@ use Rattle.mesh_store.specs.declared.cells.FaceCell.{FaceCell}
 use Rattle.mesh_cycles.specs.Owners.{face_of, len_of, first_round}
 use Rattle.mesh_cycles.specs.Lists.{ring_list, same_round, without, with_behind}
 use Rattle.mesh_cycles.specs.Cycles.{AreCycles, round_of, IsInNoRound, IsCounted}
+use Rattle.mesh_cycles.specs.Edits.{EditsRound}
 use Rattle.mesh_cycles.proofs.RingLists.{reads_distinct, reads_keys, parted, length_behind}
-use Rattle.mesh_cycles.proofs.CycleKinds.{in_none, near_more, behind_more}
+use Rattle.mesh_cycles.proofs.CycleKinds.{in_none, near_more, last_more, behind_more}
 use Rattle.mesh_cycles.proofs.Cells.{live_cell, led_back}
 use Rattle.mesh_cycles.proofs.Frames.{round_kind, rounds_hold, round_test}
-use Rattle.mesh_cycles.proofs.Rounds.{RoundEdited, WritesRound, as_round, face_loop_in, with_loop_and_len, round_changes, round_edited}
+use Rattle.mesh_cycles.proofs.Rounds.{WritesRound, as_round, face_loop_in, with_loop_and_len, round_changes, round_edited}
 
 -- ---- the first loop that was written, or stays
 
@@ -90,7 +91,7 @@ one_more st f l h out names =
 -- a loop is the only one
 pub loop_made : (old mid new : Stored) (f : ℕ) (l : Round) → AreCycles old → IsLive old.faces.cells f → face_of old l.0 ≡ Some f
     → (ring : IsRing (round_links mid) (l ∷ [])) → (others : SameOutside (round_links old) (round_links mid) (l ∷ []))
-    → WritesRound old mid new f (with_loop_and_len (Some l.0) 1) → RoundEdited old new f (l ∷ []) (l ∷ [])
+    → WritesRound old mid new f (with_loop_and_len (Some l.0) 1) → EditsRound old new f (l ∷ []) (l ∷ [])
 loop_made old mid new f l h live names ring others w =
     let P = λ (k : Round). face_of old k.0 ≡ Some f in
     let only : (j : Round) → HasMember (l ∷ []) j → face_of old j.0 ≡ Some f = λ j m. subst P (member_one m) names in
@@ -99,6 +100,20 @@ loop_made old mid new f l h live names ring others w =
     (round_changes w (Some l) (l ∷ []) (l ∷ []) (first_written old.faces.cells f (Some l) 1 live) (record { ring = ring; start = refl }) others only only)
     (ap (option_map (λ (c : FaceCell). c.len)) cell.1) (λ c. refl) refl
 
+-- a loop is put last
+pub loop_appended : (old mid new : Stored) (f : ℕ) (l : Round) (len : ℕ) {first head : Option Round} → AreCycles old → IsLive old.faces.cells f → face_of old l.0 ≡ Some f
+    → IsCounted old f → len_of old f ≡ Some len → first ≡ first_round old f
+    → (reads : (xs : List Round) → ReadsAs (round_links old) first xs → ReadsAs (round_links mid) head (xs ++ l ∷ []))
+    → (others : (xs : List Round) → ReadsAs (round_links old) first xs → SameOutside (round_links old) (round_links mid) (l ∷ xs))
+    → WritesRound old mid new f (with_loop_and_len (slot_in head) (len + 1)) → EditsRound old new f (l ∷ round_of old f) (round_of old f ++ l ∷ [])
+loop_appended old mid new f l len {first} {head} h live names counted counts is reads others w =
+    let rounds = rounds_hold old h in let r = reads_at (h.rounds f) (sym is) in
+    let c = round_changes w head (l ∷ round_of old f) (round_of old f ++ l ∷ []) (first_written old.faces.cells f head (len + 1) live) (reads (round_of old f) r) (others (round_of old f) r)
+    (near_more same_round (round_kind old) f l rounds names) (last_more same_round (round_kind old) f l rounds names) in
+    let was : len ≡ length (round_of old f) = same_Some _ _ (sym counts ∙ counted) in
+    let more = length-append (round_of old f) (l ∷ []) in
+    round_edited w len (len + 1) h c counts (λ c. refl) (omega arith)
+
 -- a loop is put behind another
 pub loop_inserted : (old mid new : Stored) (after l : Round) (face : Slot) (len : ℕ) → AreCycles old
     → (f : ℕ) × HasMember (round_of old f) after → ((f : ℕ) → face_of old after.0 ≡ Some f → IsCounted old f) → face_of old l.0 ≡ face_of old after.0
@@ -106,15 +121,15 @@ pub loop_inserted : (old mid new : Stored) (after l : Round) (face : Slot) (len 
     → (ring : (xs : List Round) → IsRing (round_links old) (after ∷ xs) → IsRing (round_links mid) (after ∷ l ∷ xs))
     → (others : (xs : List Round) → IsRing (round_links old) (after ∷ xs) → SameOutside (round_links old) (round_links mid) (l ∷ after ∷ xs))
     → WritesRound old mid new face.0 (with_face_len (len + 1))
-    → (f : ℕ) → face_of old after.0 ≡ Some f → RoundEdited old new f (l ∷ round_of old f) (with_behind same_round after l (round_of old f))
+    → (f : ℕ) → face_of old after.0 ≡ Some f → EditsRound old new f (l ∷ round_of old f) (with_behind same_round after l (round_of old f))
 loop_inserted old mid new after l face len h m counted same names counts ring others w f e =
     let a = named_face old after.0 face h m names in
     let rounds = rounds_hold old h in let s = parted same_round round_test after (h.rounds face.0) a.member in
     let r = reads_along (h.rounds face.0) s.whole in
     let owner : face_of old l.0 ≡ Some face.0 = same ∙ a.face in
     let P = λ (ls : List Round). SameOutside (round_links old) (round_links mid) (l ∷ ls) in
-    let Q = RoundEdited old new face.0 (l ∷ round_of old face.0) in
-    let R = λ (g : ℕ). RoundEdited old new g (l ∷ round_of old g) (with_behind same_round after l (round_of old g)) in
+    let Q = EditsRound old new face.0 (l ∷ round_of old face.0) in
+    let R = λ (g : ℕ). EditsRound old new g (l ∷ round_of old g) (with_behind same_round after l (round_of old g)) in
     let c = round_changes w (first_round old face.0) (l ∷ round_of old face.0) (s.before ++ after ∷ l ∷ s.after) (first_left (at old.faces.cells face.0) (len + 1))
     (put_in_middle (round_links mid) s.before after l s.after r ring) (subst P (sym s.whole) (put_others s.before after l s.after r others))
     (near_more same_round (round_kind old) face.0 l rounds owner) (behind_more same_round (round_kind old) face.0 l rounds owner s.before after s.after s.whole) in
@@ -128,12 +143,12 @@ pub loop_removed : (old mid new : Stored) (f : ℕ) (l : Round) (len : ℕ) {fir
     → IsCounted old f → len_of old f ≡ Some len → first ≡ first_round old f
     → (reads : (xs ys : List Round) → ReadsAs (round_links old) first (xs ++ l ∷ ys) → ReadsAs (round_links mid) head (xs ++ ys))
     → (others : (xs : List Round) → ReadsAs (round_links old) first xs → SameOutside (round_links old) (round_links mid) xs)
-    → WritesRound old mid new f (with_loop_and_len (slot_in head) (len - 1)) → RoundEdited old new f (round_of old f) (without same_round l (round_of old f)) × IsInNoRound new l.0
+    → WritesRound old mid new f (with_loop_and_len (slot_in head) (len - 1)) → EditsRound old new f (round_of old f) (without same_round l (round_of old f)) × IsInNoRound new l.0
 loop_removed old mid new f l len {first} {head} h live member counted counts is reads others w =
     let rounds = rounds_hold old h in let r = reads_at (h.rounds f) (sym is) in let s = parted same_round round_test l (h.rounds f) member in
     let c = round_changes w head (round_of old f) (s.before ++ s.after) (first_written old.faces.cells f head (len - 1) live) (reads s.before s.after (reads_along r s.whole)) (others (round_of old f) r)
     (rounds.owned f) (λ j m. rounds.owned f j (s.within j m)) in
     let was : len ≡ length (round_of old f) = same_Some _ _ (sym counts ∙ counted) in
     let less = s.count in
-    let P = RoundEdited old new f (round_of old f) in
+    let P = EditsRound old new f (round_of old f) in
     (subst P (sym s.less) (round_edited w len (len - 1) h c counts (λ c. refl) (omega arith)), in_none same_round round_test rounds c l (h.round_faces f l member) s.out)

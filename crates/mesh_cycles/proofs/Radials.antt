@@ -19,9 +19,10 @@ use Rattle.mesh_store.specs.declared.cells.LoopCell.{LoopCell}
 use Rattle.mesh_cycles.specs.Owners.{end_on, side_at, edge_of, first_dart, first_radial}
 use Rattle.mesh_cycles.specs.Lists.{same_dart, same_radial, same_round, without}
 use Rattle.mesh_cycles.specs.Cycles.{AreCycles, radial_of, IsInNoRadial}
-use Rattle.mesh_cycles.specs.Edits.{SameDisks, SameRadialsBut, SameRounds, beside_radial}
+use Rattle.mesh_cycles.specs.Edits.{SameDisks, SameRadialsBut, SameRounds, beside_radial, EditsRadial}
 use Rattle.mesh_cycles.proofs.RingLists.{parted}
 use Rattle.mesh_cycles.proofs.CycleKinds.{Kind, Holds, Changes, cycle_at, own_cycle, other_cycles, still_holds, in_none, near_more, last_more}
+use Rattle.mesh_cycles.proofs.Besides.{radial_bare}
 use Rattle.mesh_cycles.proofs.Cells.{told, as_long, changed_beside, changed_over, live_cell, changed_here, changed_elsewhere, led_back}
 use Rattle.mesh_cycles.proofs.Frames.{differ_along, disk_kind, radial_kind, round_kind, disks_hold, radials_hold, rounds_hold, are_cycles, radial_test}
 
@@ -32,16 +33,6 @@ as_radial l = record { 0 = l }
 -- the slot of a first loop that may be None
 abbrev slot_in : Option Radial → Option Slot
 slot_in head = option_map (λ (l : Radial). l.0) head
-
--- what the clauses of a call say
-pub record RadialEdited (old new : Stored) (e : ℕ) (touched now : List Radial) : Type 0 where
-  pub own : radial_of new e ≡ now
-  pub links : SameOutside (radial_links old) (radial_links new) touched
-  pub disks : SameDisks old new
-  pub others : SameRadialsBut e old new
-  pub rounds : SameRounds old new
-  pub rest : beside_radial new e ≡ beside_radial old e
-  pub cycles : AreCycles new
 
 -- ---- a write
 
@@ -151,7 +142,7 @@ module _ {old mid new : Stored} {e : ℕ} {head : Option Radial} (w : WritesRadi
       }
 
   -- what follows of all cycles
-  radial_edited : {touched now : List Radial} → AreCycles old → Changes (radial_kind old) (radial_kind new) e touched now → RadialEdited old new e touched now
+  radial_edited : {touched now : List Radial} → AreCycles old → Changes (radial_kind old) (radial_kind new) e touched now → EditsRadial old new e touched now
   radial_edited h c =
       let radials = radials_hold old h in
       record {
@@ -161,6 +152,7 @@ module _ {old mid new : Stored} {e : ℕ} {head : Option Radial} (w : WritesRadi
         others = other_cycles same_radial radial_test radials c;
         rounds = λ f. ap (λ (k : Kind Round). cycle_at same_round k f) rounds_stay;
         rest = radial_beside;
+        stays = radial_bare old new e radial_beside;
         cycles = are_cycles new (subst (Holds same_dart) (sym disks_stay) (disks_hold old h)) (still_holds same_radial radial_test radials c)
             (subst (Holds same_round) (sym rounds_stay) (rounds_hold old h)) (differ_along old.edges.cells new.edges.cells (λ s p. edge_told (option_map (end_on s)) (λ c. refl) p) h.differ);
       }
@@ -171,7 +163,7 @@ module _ {old mid new : Stored} {e : ℕ} {head : Option Radial} (w : WritesRadi
 pub radial_added : (old mid new : Stored) (e : ℕ) (l : Radial) {first head : Option Radial} → AreCycles old → IsLive old.edges.cells e → edge_of old l.0 ≡ Some e
     → first ≡ first_radial old e → (reads : (xs : List Radial) → ReadsAs (radial_links old) first xs → ReadsAs (radial_links mid) head (xs ++ l ∷ []))
     → (others : (xs : List Radial) → ReadsAs (radial_links old) first xs → SameOutside (radial_links old) (radial_links mid) (l ∷ xs))
-    → WritesRadial old mid new e head → RadialEdited old new e (l ∷ radial_of old e) (radial_of old e ++ l ∷ [])
+    → WritesRadial old mid new e head → EditsRadial old new e (l ∷ radial_of old e) (radial_of old e ++ l ∷ [])
 radial_added old mid new e l h live names is reads others w =
     let radials = radials_hold old h in let r = reads_at (h.radials e) (sym is) in
     radial_edited w h (radial_changes w (l ∷ radial_of old e) (radial_of old e ++ l ∷ []) live (reads (radial_of old e) r) (others (radial_of old e) r)
@@ -181,10 +173,10 @@ radial_added old mid new e l h live names is reads others w =
 pub radial_removed : (old mid new : Stored) (e : ℕ) (l : Radial) {first head : Option Radial} → AreCycles old → IsLive old.edges.cells e → HasMember (radial_of old e) l
     → first ≡ first_radial old e → (reads : (xs ys : List Radial) → ReadsAs (radial_links old) first (xs ++ l ∷ ys) → ReadsAs (radial_links mid) head (xs ++ ys))
     → (others : (xs : List Radial) → ReadsAs (radial_links old) first xs → SameOutside (radial_links old) (radial_links mid) xs)
-    → WritesRadial old mid new e head → RadialEdited old new e (radial_of old e) (without same_radial l (radial_of old e)) × IsInNoRadial new l.0
+    → WritesRadial old mid new e head → EditsRadial old new e (radial_of old e) (without same_radial l (radial_of old e)) × IsInNoRadial new l.0
 radial_removed old mid new e l h live member is reads others w =
     let radials = radials_hold old h in let r = reads_at (h.radials e) (sym is) in let s = parted same_radial radial_test l (h.radials e) member in
     let c = radial_changes w (radial_of old e) (s.before ++ s.after) live (reads s.before s.after (reads_along r s.whole)) (others (radial_of old e) r)
     (radials.owned e) (λ j m. radials.owned e j (s.within j m)) in
-    let P = RadialEdited old new e (radial_of old e) in
+    let P = EditsRadial old new e (radial_of old e) in
     (subst P (sym s.less) (radial_edited w h c), in_none same_radial radial_test radials c l (h.radial_edges e l member) s.out)

@@ -9,7 +9,7 @@ use Rattle.link_ring.proofs.Members.{around, member_of, member_left, member_righ
 use Rattle.link_ring.proofs.Paths.{IsIdentityTest, IsLimit}
 use Rattle.link_ring.proofs.Walks.{path-goes_on, walk_start}
 use Rattle.link_ring.proofs.Reading.{member_in_ring, reads_along, taken_others}
-use Rattle.mesh_cycles.specs.Lists.{ring_list, without, with_behind}
+use Rattle.mesh_cycles.specs.Lists.{ring_list, without, with_behind, from_member, before_member}
 
 -- ---- `==` on a first key
 
@@ -120,3 +120,17 @@ parted {K} same t {zs = zs} k r h =
       ]) (sym s.whole);
       count = ap (λ (ys : List K). length ys) s.whole ∙ length_middle s.before k s.after;
     }
+
+-- a list of different members, from one of them on
+pub from_split : {K : Type 0} (same : K → K → Bool) → IsIdentityTest same → (xs : List K) (k : K) (ys : List K) → AllDistinct (xs ++ k ∷ ys) → from_member same k (xs ++ k ∷ ys) ≡ k ∷ ys
+from_split same t [] k ys d = rw (t.same k) refl
+from_split {K} same t (x ∷ xs) k ys d =
+    let other : same x k ≡ false = false_from_ne_true (same x k) (λ e. d.0 (let P = HasMember (xs ++ k ∷ ys) in subst P (sym (t.one x k e)) (member_right xs (k ∷ ys) k (inl refl)))) in
+    rw other (from_split same t xs k ys d.1)
+
+-- and up to it
+pub before_split : {K : Type 0} (same : K → K → Bool) → IsIdentityTest same → (xs : List K) (k : K) (ys : List K) → AllDistinct (xs ++ k ∷ ys) → before_member same k (xs ++ k ∷ ys) ≡ xs
+before_split same t [] k ys d = rw (t.same k) refl
+before_split {K} same t (x ∷ xs) k ys d =
+    let other : same x k ≡ false = false_from_ne_true (same x k) (λ e. d.0 (let P = HasMember (xs ++ k ∷ ys) in subst P (sym (t.one x k e)) (member_right xs (k ∷ ys) k (inl refl)))) in
+    rw other (ap (λ (zs : List K). x ∷ zs) (before_split same t xs k ys d.1))

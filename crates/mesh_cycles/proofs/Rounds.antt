@@ -17,8 +17,9 @@ use Rattle.mesh_store.specs.declared.cells.FaceCell.{FaceCell}
 use Rattle.mesh_cycles.specs.Owners.{face_of, len_of}
 use Rattle.mesh_cycles.specs.Lists.{same_dart, same_radial, same_round}
 use Rattle.mesh_cycles.specs.Cycles.{AreCycles, round_of, IsCounted, EndsDiffer}
-use Rattle.mesh_cycles.specs.Edits.{SameDisks, SameRadials, SameRoundsBut, bare_face, beside_round}
+use Rattle.mesh_cycles.specs.Edits.{SameDisks, SameRadials, SameRoundsBut, bare_face, beside_round, EditsRound}
 use Rattle.mesh_cycles.proofs.CycleKinds.{Kind, Holds, Changes, cycle_at, own_cycle, other_cycles, still_holds}
+use Rattle.mesh_cycles.proofs.Besides.{round_bare}
 use Rattle.mesh_cycles.proofs.Cells.{told, as_long, changed_twice, changed_over, changed_here, changed_elsewhere}
 use Rattle.mesh_cycles.proofs.Frames.{disk_kind, radial_kind, round_kind, disks_hold, radials_hold, rounds_hold, are_cycles, round_test}
 
@@ -37,17 +38,6 @@ with_loop_and_len to len c = with_face_len len (with_face_loop to c)
 -- two changes of a face are one
 face_twice : (f g : FaceCell → FaceCell) (st : Stored) (s : ℕ) → change_face g (change_face f st s) s ≡ change_face (λ c. g (f c)) st s
 face_twice f g st s = ap (λ (cs : List (Option FaceCell)). record st { faces = record { cells = cs; names = st.faces.names } }) (changed_twice f g st.faces.cells s)
-
--- what the clauses of a call say
-pub record RoundEdited (old new : Stored) (f : ℕ) (touched now : List Round) : Type 0 where
-  pub own : round_of new f ≡ now
-  pub links : SameOutside (round_links old) (round_links new) touched
-  pub len : IsCounted new f
-  pub disks : SameDisks old new
-  pub radials : SameRadials old new
-  pub others : SameRoundsBut f old new
-  pub rest : beside_round new f ≡ beside_round old f
-  pub cycles : AreCycles new
 
 -- ---- a write
 
@@ -145,20 +135,25 @@ module _ {old mid new : Stored} {f : ℕ} {g : FaceCell → FaceCell} (w : Write
       len_written None h = absurd (let e : None ≡ Some was = h in cc)
       len_written (Some c) h = ap (λ (n : ℕ). Some n) (is c)
 
-  -- what follows of all cycles
-  pub round_edited : {touched now : List Round} (was len : ℕ) → AreCycles old → Changes (round_kind old) (round_kind new) f touched now
-      → len_of old f ≡ Some was → ((c : FaceCell) → (g c).len ≡ len) → len ≡ length now → RoundEdited old new f touched now
-  round_edited was len h c counted is fits =
+  -- what follows of all cycles, where the length is right
+  pub round_kept : {touched now : List Round} → AreCycles old → Changes (round_kind old) (round_kind new) f touched now → len_of new f ≡ Some (length now) → EditsRound old new f touched now
+  round_kept h c len =
       let rounds = rounds_hold old h in
       let own = own_cycle same_round round_test c in
       record {
         own = own;
         links = c.outside;
-        len = len_now was len counted is ∙ ap (λ (n : ℕ). Some n) (fits ∙ sym (ap (λ (ls : List Round). length ls) own));
+        len = len ∙ ap (λ (ls : List Round). Some (length ls)) (sym own);
         disks = λ v. ap (λ (k : Kind Dart). cycle_at same_dart k v) disks_stay;
         radials = λ e. ap (λ (k : Kind Radial). cycle_at same_radial k e) radials_stay;
         others = other_cycles same_round round_test rounds c;
         rest = round_beside;
+        stays = round_bare old new f round_beside;
         cycles = are_cycles new (subst (Holds same_dart) (sym disks_stay) (disks_hold old h)) (subst (Holds same_radial) (sym radials_stay) (radials_hold old h))
             (still_holds same_round round_test rounds c) (subst EndsDiffer (sym edges_same) h.differ);
       }
+
+  -- and where it was written
+  pub round_edited : {touched now : List Round} (was len : ℕ) → AreCycles old → Changes (round_kind old) (round_kind new) f touched now
+      → len_of old f ≡ Some was → ((c : FaceCell) → (g c).len ≡ len) → len ≡ length now → EditsRound old new f touched now
+  round_edited was len h c counted is fits = round_kept h c (len_now was len counted is ∙ ap (λ (n : ℕ). Some n) fits)

@@ -20,7 +20,7 @@ use Rattle.mesh_store.specs.declared.cells.LoopCell.{LoopCell}
 use Rattle.mesh_cycles.specs.Owners.{end_on, side_at, dart_at, first_dart, first_radial, first_round}
 use Rattle.mesh_cycles.specs.Lists.{same_dart, same_radial, same_round}
 use Rattle.mesh_cycles.specs.Cycles.{AreCycles, disk_of, radial_of, round_of, EndsDiffer}
-use Rattle.mesh_cycles.specs.Edits.{SameDisks, SameRadials, SameRounds}
+use Rattle.mesh_cycles.specs.Adds.{SameCycles}
 use Rattle.mesh_cycles.proofs.RingLists.{list_read}
 use Rattle.mesh_cycles.proofs.CycleKinds.{Kind, Holds, cycle_at}
 use Rattle.mesh_cycles.proofs.Cells.{kept}
@@ -29,11 +29,11 @@ use Rattle.mesh_cycles.proofs.Frames.{dart_test, radial_test, round_test, disk_k
 -- ---- one kind of cycles
 
 -- each cycle begins with the same member, and the links and the owner of each member stay
-record Keeps {K : Type 0} (same : K → K → Bool) (old new : Kind K) : Type 0 where
-  firsts : (o : ℕ) → new.first o ≡ old.first o
-  links : (o : ℕ) → SameOn old.links new.links (cycle_at same old o)
-  owners : (o : ℕ) (k : K) → HasMember (cycle_at same old o) k → new.owner k ≡ old.owner k
-  limited : IsLimit new.links new.limit
+pub record Keeps {K : Type 0} (same : K → K → Bool) (old new : Kind K) : Type 0 where
+  pub firsts : (o : ℕ) → new.first o ≡ old.first o
+  pub links : (o : ℕ) → SameOn old.links new.links (cycle_at same old o)
+  pub owners : (o : ℕ) (k : K) → HasMember (cycle_at same old o) k → new.owner k ≡ old.owner k
+  pub limited : IsLimit new.links new.limit
 
 module _ {K : Type 0} (same : K → K → Bool) (t : IsIdentityTest same) where
   -- so each reads as before
@@ -87,13 +87,6 @@ pub record Stays (old new : Stored) : Type 0 where
   pub rounds : (f : ℕ) (l : Round) → HasMember (round_of old f) l → option_map round_part (at new.loops l.0.0) ≡ option_map round_part (at old.loops l.0.0)
   pub differ : EndsDiffer new.edges.cells
 
--- all cycles hold, with the members that they had
-pub record SameCycles (old new : Stored) : Type 0 where
-  pub cycles : AreCycles new
-  pub disks : SameDisks old new
-  pub radials : SameRadials old new
-  pub rounds : SameRounds old new
-
 -- a vertex's first dart is the one that its first edge has there
 pub first_by : (st : Stored) (v : ℕ) → first_dart st v ≡ option_map (dart_at st v) (first_edge_in (at st.verts.cells v))
 first_by st v = by_cell (at st.verts.cells v)
@@ -101,6 +94,16 @@ first_by st v = by_cell (at st.verts.cells v)
     by_cell : (o : Option VertCell) → option_and_then (λ (c : VertCell). option_map (dart_at st v) c.first_edge) o ≡ option_map (dart_at st v) (first_edge_in o)
     by_cell None = refl
     by_cell (Some c) = refl
+
+-- where each kind of cycles keeps its members, no cycle changes
+pub same_by : (old new : Stored) → AreCycles old → Keeps same_dart (disk_kind old) (disk_kind new) → Keeps same_radial (radial_kind old) (radial_kind new) → Keeps same_round (round_kind old) (round_kind new)
+    → EndsDiffer new.edges.cells → SameCycles old new
+same_by old new h d l r e = record {
+  cycles = are_cycles new (kept_holds same_dart dart_test (disks_hold old h) d) (kept_holds same_radial radial_test (radials_hold old h) l) (kept_holds same_round round_test (rounds_hold old h) r) e;
+  disks = kept_cycles same_dart dart_test (disks_hold old h) d;
+  radials = kept_cycles same_radial radial_test (radials_hold old h) l;
+  rounds = kept_cycles same_round round_test (rounds_hold old h) r;
+}
 
 module _ (old new : Stored) (h : AreCycles old) (w : Stays old new) where
   -- an edge that stays has the same dart at the vertex
@@ -159,10 +162,4 @@ module _ (old new : Stored) (h : AreCycles old) (w : Stays old new) where
   }
 
   pub same_cycles : SameCycles old new
-  same_cycles = record {
-    cycles = are_cycles new (kept_holds same_dart dart_test (disks_hold old h) disks_keep) (kept_holds same_radial radial_test (radials_hold old h) radials_keep)
-        (kept_holds same_round round_test (rounds_hold old h) rounds_keep) w.differ;
-    disks = kept_cycles same_dart dart_test (disks_hold old h) disks_keep;
-    radials = kept_cycles same_radial radial_test (radials_hold old h) radials_keep;
-    rounds = kept_cycles same_round round_test (rounds_hold old h) rounds_keep;
-  }
+  same_cycles = same_by old new h disks_keep radials_keep rounds_keep w.differ

@@ -1,7 +1,7 @@
 -- The three kinds of cycles of a store, each as the list of its members, and when all cycles hold.
 use Rattle.std.specs.Prelude.{◌≡◌, ◌≢◌, ◌*◌, ℕ, IsTrue, List, length}
 use Rattle.std.specs.declared.option.Option.{Option}
-use Rattle.std.specs.declared.option.Option.TheVariants.{Some}
+use Rattle.std.specs.declared.option.Option.TheVariants.{None, Some}
 use Rattle.raw_pool.specs.declared.pool.Slot.{Slot}
 use Rattle.link_ring.specs.Members.{HasMember}
 use Rattle.link_ring.specs.Ring.{ReadsAs}
@@ -68,7 +68,32 @@ IsCounted st f = len_of st f ≡ Some (length (round_of st f))
 abbrev pub HasWholeDisk : Stored → ℕ → Type 0
 HasWholeDisk st v = (d : Dart) → IsTrue ((dart_links st).has d) → dart_end st d ≡ Some v → HasMember (disk_of st v) d
 
--- every dart of a live edge is in the disk cycle of its end, and every live loop in the radial cycle of its edge
+-- every dart of a live edge is in the disk cycle of its end
+abbrev pub AreWhole : Stored → Type 0
+AreWhole st = (v : ℕ) → HasWholeDisk st v
+
+-- so is every dart of a live edge, but for one edge's
+abbrev pub AreWholeBut : ℕ → Stored → Type 0
+AreWholeBut e st = (v : ℕ) (d : Dart) → d.edge.0 ≢ e → IsTrue ((dart_links st).has d) → dart_end st d ≡ Some v → HasMember (disk_of st v) d
+
+-- every dart of a live edge is in the disk cycle of its end, and every live loop in the cycles of its edge and its face
 pub record AreComplete (st : Stored) : Type 0 where
-  pub disks : (v : ℕ) → HasWholeDisk st v
+  pub disks : AreWhole st
   pub radials : (l : Slot) (e : ℕ) → edge_of st l ≡ Some e → HasMember (radial_of st e) (record { 0 = l })
+  pub rounds : (l : Slot) (f : ℕ) → face_of st l ≡ Some f → HasMember (round_of st f) (record { 0 = l })
+
+-- the stored length of each face is the number of its loops
+abbrev pub AreCounted : Stored → Type 0
+AreCounted st = (f n : ℕ) → len_of st f ≡ Some n → n ≡ length (round_of st f)
+
+-- all cycles hold, nothing that belongs to one is left out, and lengths are right
+pub record HaveCycles (st : Stored) : Type 0 where
+  pub cycles : AreCycles st
+  pub complete : AreComplete st
+  pub counted : AreCounted st
+
+-- no vertex has a first edge, and no edge and no face a first loop
+pub record HaveNoFirsts (st : Stored) : Type 0 where
+  pub verts : (v : ℕ) → first_dart st v ≡ None
+  pub edges : (e : ℕ) → first_radial st e ≡ None
+  pub faces : (f : ℕ) → first_round st f ≡ None

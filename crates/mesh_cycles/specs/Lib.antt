@@ -2,9 +2,10 @@ pub mod Owners
 pub mod Lists
 pub mod Cycles
 pub mod Edits
+pub mod Adds
+pub mod NewElements
 pub mod Found
 pub mod Left
 pub mod Around
 pub mod Faces
-pub mod TestStores
 pub mod Rows

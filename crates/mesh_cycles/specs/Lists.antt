@@ -1,5 +1,5 @@
 -- Lists of different members: one more, one less, and what leads once around a ring.
-use Rattle.std.specs.Prelude.{◌==◌, ◌&&◌, ℕ, Bool, not, if◌then◌else◌, List, [], ◌∷◌}
+use Rattle.std.specs.Prelude.{◌==◌, ◌&&◌, ℕ, Bool, not, if◌then◌else◌, List, [], ◌∷◌, ◌++◌, reverse}
 use Rattle.std.specs.declared.option.Option.{Option}
 use Rattle.std.specs.declared.option.Option.TheVariants.{None, Some}
 use Rattle.std.specs.List.{filter}
@@ -34,3 +34,22 @@ without same k xs = filter (λ x. not (same x k)) xs
 abbrev pub with_behind : {K : Type 0} → (K → K → Bool) → K → K → List K → List K
 with_behind same place k [] = []
 with_behind same place k (x ∷ xs) = if same x place then x ∷ k ∷ xs else x ∷ with_behind same place k xs
+
+-- the list from a member on
+abbrev pub from_member : {K : Type 0} → (K → K → Bool) → K → List K → List K
+from_member same k [] = []
+from_member same k (x ∷ xs) = if same x k then x ∷ xs else from_member same k xs
+
+-- the list up to a member
+abbrev pub before_member : {K : Type 0} → (K → K → Bool) → K → List K → List K
+before_member same k [] = []
+before_member same k (x ∷ xs) = if same x k then [] else x ∷ before_member same k xs
+
+-- a circle's list, read from a member on
+abbrev pub turned_to : {K : Type 0} → (K → K → Bool) → K → List K → List K
+turned_to same k xs = from_member same k xs ++ before_member same k xs
+
+-- a circle's list, read from its first member on the other way round
+abbrev pub reversed : {K : Type 0} → List K → List K
+reversed [] = []
+reversed (x ∷ xs) = x ∷ reverse xs

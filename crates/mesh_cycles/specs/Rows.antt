@@ -3,7 +3,7 @@ use Rattle.std.specs.Prelude.{◌≡◌, ℕ, true, false, List, [], ◌∷◌, 
 use Rattle.std.specs.declared.option.Option.{Option}
 use Rattle.std.specs.declared.option.Option.TheVariants.{None, Some}
 use Rattle.raw_pool.specs.declared.pool.Slot.{Slot}
-use Rattle.mesh_store.specs.Stored.{Stored}
+use Rattle.mesh_store.specs.Stored.{Stored, no_values}
 use Rattle.mesh_store.specs.Rows.{slot, dart}
 use Rattle.mesh_store.specs.declared.cells.Dart.{Dart}
 use Rattle.mesh_store.specs.declared.cells.VertCell.{VertCell}
@@ -66,6 +66,7 @@ small = record {
     cells = face 0 0 2 ∷ face 1 2 1 ∷ face 2 3 1 ∷ [];
     names = Some (slot 0) ∷ Some (slot 1) ∷ Some (slot 2) ∷ [];
   };
+  values = no_values;
 }
 
 -- ---- what it stands for

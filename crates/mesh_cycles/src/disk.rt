@@ -3,12 +3,11 @@ ghost use Rattle.std.specs.Prelude.{◌≡◌, [], ◌∷◌, ◌++◌, Some, Is
 ghost use Rattle.std.specs.Option.{option_map};
 ghost use Rattle.raw_pool.specs.Slots.{IsLive};
 ghost use Rattle.link_ring.specs.Members.{HasMember};
-ghost use Rattle.link_ring.specs.Changes.{SameOutside};
 ghost use Rattle.mesh_store.specs.Stored.{dart_links, with_first_edge, change_vert};
 ghost use Rattle.mesh_cycles.specs.Owners.{dart_end, first_dart};
 ghost use Rattle.mesh_cycles.specs.Lists.{same_dart, without};
 ghost use Rattle.mesh_cycles.specs.Cycles.{AreCycles, disk_of, IsInNoDisk};
-ghost use Rattle.mesh_cycles.specs.Edits.{SameDisksBut, SameRadials, SameRounds, beside_disk};
+ghost use Rattle.mesh_cycles.specs.Edits.{EditsDisk};
 
 use crate::members::{push_last, take_member};
 use mesh_store::{Dart, Slot, Store};
@@ -22,13 +21,7 @@ pub fn disk_add(st: &mut Store, v: Slot, d: Dart)
     requires dart { IsTrue ((dart_links st.old).has d) }
     requires end { dart_end st.old d ≡ Some v.0 }
     requires apart { IsInNoDisk st.old d }
-    ensures own { disk_of st.new v.0 ≡ disk_of st.old v.0 ++ d ∷ [] }
-    ensures links { SameOutside (dart_links st.old) (dart_links st.new) (d ∷ disk_of st.old v.0) }
-    ensures others { SameDisksBut v.0 st.old st.new }
-    ensures radials { SameRadials st.old st.new }
-    ensures rounds { SameRounds st.old st.new }
-    ensures rest { beside_disk st.new v.0 ≡ beside_disk st.old v.0 }
-    ensures cycles { AreCycles st.new }
+    ensures { EditsDisk st.old st.new v.0 (d ∷ disk_of st.old v.0) (disk_of st.old v.0 ++ d ∷ []) }
 {
     let first = first_dart(st, v);
     let head = push_last(st, first, d);
@@ -43,22 +36,16 @@ pub fn disk_remove(st: &mut Store, v: Slot, d: Dart)
     requires cycles { AreCycles st.old }
     requires live { IsLive st.old.verts.cells v.0 }
     requires member { HasMember (disk_of st.old v.0) d }
-    ensures own { disk_of st.new v.0 ≡ without same_dart d (disk_of st.old v.0) }
+    ensures edits { EditsDisk st.old st.new v.0 (disk_of st.old v.0) (without same_dart d (disk_of st.old v.0)) }
     ensures out { IsInNoDisk st.new d }
-    ensures links { SameOutside (dart_links st.old) (dart_links st.new) (disk_of st.old v.0) }
-    ensures others { SameDisksBut v.0 st.old st.new }
-    ensures radials { SameRadials st.old st.new }
-    ensures rounds { SameRounds st.old st.new }
-    ensures rest { beside_disk st.new v.0 ≡ beside_disk st.old v.0 }
-    ensures cycles { AreCycles st.new }
 {
     let first = first_dart(st, v);
     let head = take_member(st, first, d);
     set_first_dart(st, v, head);
 }
 
-// The dart with which the disk cycle of a vertex begins.
-pub(crate) fn first_dart(st: &Store, v: Slot) -> Option<Dart>
+/// The dart with which the disk cycle of a live vertex begins: that of its first edge. Constant time.
+pub fn first_dart(st: &Store, v: Slot) -> Option<Dart>
     requires live { IsLive st.now.verts.cells v.0 }
     requires cycles { AreCycles st.now }
     ensures { result ≡ first_dart st.now v.0 }

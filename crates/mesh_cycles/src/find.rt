@@ -26,6 +26,38 @@ pub fn find_edge(st: &Store, a: Slot, b: Slot) -> Option<Slot>
     least
 }
 
+/// As [`find_edge`], where the disk cycles of both vertices are whole. It takes time that grows with the edges around
+/// the one that has fewer.
+pub fn edge_between(st: &Store, a: Slot, b: Slot) -> Option<Slot>
+    requires cycles { AreCycles st.now }
+    requires live_a { IsLive st.now.verts.cells a.0 }
+    requires live_b { IsLive st.now.verts.cells b.0 }
+    requires whole_a { HasWholeDisk st.now a.0 }
+    requires whole_b { HasWholeDisk st.now b.0 }
+    ensures { MatchOption result (NoneJoins st.now a.0 b.0) (JoinsFirst st.now a.0 b.0) }
+{
+    if has_fewer(st, a, b) {
+        find_edge(st, a, b)
+    } else {
+        find_edge(st, b, a)
+    }
+}
+
+// Whether a vertex has at most as many edges as another, which is found in as many steps as the lesser number.
+fn has_fewer(st: &Store, a: Slot, b: Slot) -> bool
+    requires cycles { AreCycles st.now }
+    requires live_a { IsLive st.now.verts.cells a.0 }
+    requires live_b { IsLive st.now.verts.cells b.0 }
+{
+    let mut others = edges_of_vert(st, b);
+    for _ in edges_of_vert(st, a) {
+        if others.next().is_none() {
+            return false;
+        }
+    }
+    true
+}
+
 // Whether a live edge joins two vertices.
 fn is_between(st: &Store, e: Slot, a: Slot, b: Slot) -> bool
     requires { IsLive st.now.edges.cells e.0 }

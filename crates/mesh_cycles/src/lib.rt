@@ -16,9 +16,11 @@
 //! |---|---|
 //! | `disk_add`, `disk_remove`, `radial_add`, `radial_remove`, `loop_make` | constant |
 //! | `loop_insert`, `loop_remove` | the loops of the face |
-//! | `loop_insert_counted`, `loop_remove_counted` | constant |
+//! | `loop_insert_counted`, `loop_remove_counted`, `loop_append`, `loop_turn` | constant |
+//! | `loop_reverse` | the loops of the face |
 //! | iterators | constant to make; what an item costs is said at each |
 //! | `find_edge` | the edges of the first vertex |
+//! | `edge_between` | the edges of the vertex that has fewer |
 #![tactic(auto)]
 
 mod along_edge;
@@ -33,8 +35,6 @@ mod leader;
 mod members;
 mod radial;
 mod rising;
-#[cfg(test)]
-mod tests;
 
 pub use along_edge::{FacesOfEdge, LoopsOfEdge, faces_of_edge, loops_of_edge};
 pub use around_vert::{
@@ -43,11 +43,12 @@ pub use around_vert::{
 // A crate can name an iterator in a contract only if the types of its fields are exported.
 #[doc(hidden)]
 pub use cycle_iter::CycleIter;
-pub use disk::{disk_add, disk_remove};
+pub use disk::{disk_add, disk_remove, first_dart};
 pub use face_loops::{
-    loop_insert, loop_insert_counted, loop_make, loop_remove, loop_remove_counted,
+    first_round, loop_append, loop_insert, loop_insert_counted, loop_make, loop_remove,
+    loop_remove_counted, loop_reverse, loop_turn,
 };
-pub use find::find_edge;
+pub use find::{edge_between, find_edge};
 pub use in_face::{CornersOfFace, corners_of_face};
-pub use radial::{radial_add, radial_remove};
+pub use radial::{first_radial, radial_add, radial_remove};
 pub use rising::{EdgesRising, FacesRising, VertsRising, edges_rising, faces_rising, verts_rising};

@@ -3,12 +3,11 @@ ghost use Rattle.std.specs.Prelude.{◌≡◌, [], ◌∷◌, ◌++◌, Some};
 ghost use Rattle.std.specs.Option.{option_map};
 ghost use Rattle.raw_pool.specs.Slots.{IsLive};
 ghost use Rattle.link_ring.specs.Members.{HasMember};
-ghost use Rattle.link_ring.specs.Changes.{SameOutside};
 ghost use Rattle.mesh_store.specs.Stored.{radial_links, with_first_loop, change_edge};
 ghost use Rattle.mesh_cycles.specs.Owners.{edge_of, first_radial};
 ghost use Rattle.mesh_cycles.specs.Lists.{same_radial, without};
 ghost use Rattle.mesh_cycles.specs.Cycles.{AreCycles, radial_of, IsInNoRadial};
-ghost use Rattle.mesh_cycles.specs.Edits.{SameDisks, SameRadialsBut, SameRounds, beside_radial};
+ghost use Rattle.mesh_cycles.specs.Edits.{EditsRadial};
 
 use crate::members::{push_last, take_member};
 use mesh_store::{Radial, Slot, Store};
@@ -21,13 +20,8 @@ pub fn radial_add(st: &mut Store, e: Slot, l: Slot)
     requires live { IsLive st.old.edges.cells e.0 }
     requires edge { edge_of st.old l ≡ Some e.0 }
     requires apart { IsInNoRadial st.old l }
-    ensures own { radial_of st.new e.0 ≡ radial_of st.old e.0 ++ record { 0 = l } ∷ [] }
-    ensures links { SameOutside (radial_links st.old) (radial_links st.new) (record { 0 = l } ∷ radial_of st.old e.0) }
-    ensures disks { SameDisks st.old st.new }
-    ensures others { SameRadialsBut e.0 st.old st.new }
-    ensures rounds { SameRounds st.old st.new }
-    ensures rest { beside_radial st.new e.0 ≡ beside_radial st.old e.0 }
-    ensures cycles { AreCycles st.new }
+    ensures { EditsRadial st.old st.new e.0 (record { 0 = l } ∷ radial_of st.old e.0)
+        (radial_of st.old e.0 ++ record { 0 = l } ∷ []) }
 {
     let first = first_radial(st, e);
     let head = push_last(st, first, Radial(l));
@@ -42,22 +36,17 @@ pub fn radial_remove(st: &mut Store, e: Slot, l: Slot)
     requires cycles { AreCycles st.old }
     requires live { IsLive st.old.edges.cells e.0 }
     requires member { HasMember (radial_of st.old e.0) (record { 0 = l }) }
-    ensures own { radial_of st.new e.0 ≡ without same_radial (record { 0 = l }) (radial_of st.old e.0) }
+    ensures edits { EditsRadial st.old st.new e.0 (radial_of st.old e.0)
+        (without same_radial (record { 0 = l }) (radial_of st.old e.0)) }
     ensures out { IsInNoRadial st.new l }
-    ensures links { SameOutside (radial_links st.old) (radial_links st.new) (radial_of st.old e.0) }
-    ensures disks { SameDisks st.old st.new }
-    ensures others { SameRadialsBut e.0 st.old st.new }
-    ensures rounds { SameRounds st.old st.new }
-    ensures rest { beside_radial st.new e.0 ≡ beside_radial st.old e.0 }
-    ensures cycles { AreCycles st.new }
 {
     let first = first_radial(st, e);
     let head = take_member(st, first, Radial(l));
     set_first_radial(st, e, head);
 }
 
-// The loop with which the radial cycle of an edge begins.
-pub(crate) fn first_radial(st: &Store, e: Slot) -> Option<Radial>
+/// The loop with which the radial cycle of a live edge begins. Constant time.
+pub fn first_radial(st: &Store, e: Slot) -> Option<Radial>
     requires { IsLive st.now.edges.cells e.0 }
     ensures { result ≡ first_radial st.now e.0 }
 {

@@ -4,8 +4,6 @@ use Rattle.std.specs.Prelude.{slice_set}
 use Rattle.std.specs.Option.{option_map}
 use Rattle.std.proofs.Math.Seq.{map-set_same}
 use Rattle.raw_pool.specs.declared.pool.Slot.{Slot}
-use Rattle.raw_pool.specs.Slots.{spare_count}
-use Rattle.raw_pool.proofs.SlotFacts.{spare_same}
 use Rattle.mesh_store.specs.Slots.{at}
 use Rattle.mesh_store.specs.Naming.{NamedCells}
 use Rattle.mesh_store.specs.Stored.{Stored, without_disk, without_radial, without_round, beside_darts, beside_radials, beside_rounds}
@@ -32,15 +30,3 @@ radials_beside st s k l was same = ap (λ (ls : List (Option LoopCell)). record 
 pub rounds_beside : (st : Stored) (s : ℕ) (k l : LoopCell) → at st.loops s ≡ Some k → without_round l ≡ without_round k
     → beside_rounds (record st { loops = slice_set st.loops s (Some l) }) ≡ beside_rounds st
 rounds_beside st s k l was same = ap (λ (ls : List (Option LoopCell)). record st { loops = ls }) (beside without_round st.loops s k l was same)
-
--- a cell is added, and written over at once
-pub added_over : {X : Type 0} (p q r : NamedCells X) (names : List (Option Slot)) (s : ℕ) (x y : X) → q ≡ record { cells = slice_set p.cells s (Some x); names = names }
-    → r ≡ record { cells = slice_set q.cells s (Some y); names = q.names } → r ≡ record { cells = slice_set p.cells s (Some y); names = names }
-added_over {X} p q r names s x y e f =
-    f
-    ∙ ap (λ (t : NamedCells X). record { cells = slice_set t.cells s (Some y); names = t.names }) e
-    ∙ ap (λ (cs : List (Option X)). record { cells = cs; names = names }) (set-set p.cells s (Some x) (Some y))
-
--- the write over takes no slot
-pub spare_over : {X : Type 0} (xs ys : List (Option X)) (s : ℕ) (x y : X) → s < length xs → ys ≡ slice_set xs s (Some x) → spare_count (slice_set ys s (Some y)) ≡ spare_count ys
-spare_over {X} xs ys s x y h e = spare_same ys s x y (ap (λ (zs : List (Option X)). at zs s) e ∙ written xs s (Some x) h)

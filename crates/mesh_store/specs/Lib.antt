@@ -5,3 +5,5 @@ pub mod Stored
 pub mod Room
 pub mod Limits
 pub mod Rows
+pub mod Parts
+pub mod Lent

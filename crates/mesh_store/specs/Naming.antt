@@ -39,3 +39,11 @@ without_cell number p s = record {
   cells = slice_set p.cells s None;
   names = slice_set p.names (number_in number (at p.cells s)) None;
 }
+
+-- a cell that stands at a slot is changed as R tells, and all else stays
+pub record Updates {X : Type 0} (R : X → X → Type 0) (old new : NamedCells X) (s : ℕ) : Type 0 where
+  pub was : X
+  pub now : X
+  pub there : at old.cells s ≡ Some was
+  pub gives : R was now
+  pub same : new ≡ record { cells = slice_set old.cells s (Some now); names = old.names }

@@ -4,7 +4,7 @@ use Rattle.std.specs.declared.option.Option.TheVariants.{None, Some}
 use Rattle.raw_pool.specs.declared.pool.Slot.{Slot}
 use Rattle.mesh_store.specs.Slots.{at}
 use Rattle.mesh_store.specs.Naming.{without_cell}
-use Rattle.mesh_store.specs.Stored.{Stored, with_point, with_ends, with_loop_face, with_face_len, change_vert, change_edge, change_loop, change_face, own_link, new_edge, new_loop, dart_links, radial_links, round_links, beside_darts, beside_radials, beside_rounds}
+use Rattle.mesh_store.specs.Stored.{Stored, no_values, with_point, with_ends, with_loop_face, with_face_len, change_vert, change_edge, change_loop, change_face, own_link, new_edge, new_loop, dart_links, radial_links, round_links, beside_darts, beside_radials, beside_rounds}
 use Rattle.mesh_store.specs.declared.cells.Dart.{Dart}
 use Rattle.mesh_store.specs.declared.cells.VertCell.{VertCell}
 use Rattle.mesh_store.specs.declared.cells.EdgeCell.{EdgeCell}
@@ -50,6 +50,7 @@ small = record {
   edges = record { cells = Some edge ∷ None ∷ []; names = Some (slot 0) ∷ [] };
   loops = Some (corner 0 1) ∷ Some (corner 1 0) ∷ None ∷ [];
   faces = record { cells = Some face ∷ []; names = None ∷ None ∷ Some (slot 0) ∷ [] };
+  values = no_values;
 }
 
 -- a change is one of the field named, and nothing where nothing stands

@@ -22,3 +22,7 @@ pub record LeadsFirst {S : Type 0} (names : List (Option S)) (low : ℕ) (s : S)
   pub from : low ≤ name
   pub here : at names name ≡ Some s
   pub none : (k : ℕ) → low ≤ k → k < name → at names k ≡ None
+
+-- as many places, with nothing in them
+abbrev pub vacated : {X : Type 0} → List (Option X) → List (Option X)
+vacated xs = replicate (length xs) None

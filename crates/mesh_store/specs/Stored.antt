@@ -1,8 +1,9 @@
 -- What a store holds, and the links of its three kinds of cycles.
-use Rattle.std.specs.Prelude.{◌==◌, ◌&&◌, ℕ, ℤ, nat_lt, is_some, cond, List, map}
+use Rattle.std.specs.Prelude.{◌==◌, ◌&&◌, ℕ, ℤ, nat_lt, is_some, cond, List, [], map}
 use Rattle.std.specs.declared.option.Option.{Option}
 use Rattle.std.specs.declared.option.Option.TheVariants.{None, Some}
 use Rattle.std.specs.Option.{option_map, option_map_or}
+use Rattle.cust_data.specs.Layers.{LayerTable}
 use Rattle.raw_pool.specs.declared.pool.Slot.{Slot}
 use Rattle.link_ring.specs.Ring.{LinkMap}
 use Rattle.mesh_store.specs.Slots.{at, changed}
@@ -15,13 +16,29 @@ use Rattle.mesh_store.specs.declared.cells.VertCell.{VertCell}
 use Rattle.mesh_store.specs.declared.cells.EdgeCell.{EdgeCell}
 use Rattle.mesh_store.specs.declared.cells.LoopCell.{LoopCell}
 use Rattle.mesh_store.specs.declared.cells.FaceCell.{FaceCell}
+use Rattle.mesh_store.specs.declared.layers.Layers.{Layers}
 
--- vertices, edges and faces by slot with their directories, and loops by slot
+-- vertices, edges and faces by slot with their directories, loops by slot, and the values of the four by slot
 pub record Stored : Type 0 where
   pub verts : NamedCells VertCell
   pub edges : NamedCells EdgeCell
   pub loops : List (Option LoopCell)
   pub faces : NamedCells FaceCell
+  pub values : Layers
+
+-- no layers, and no rows
+abbrev pub no_values : Layers
+no_values = let none : LayerTable = record { layers = []; rows = [] } in record { verts = none; edges = none; loops = none; faces = none }
+
+-- an empty store
+abbrev pub empty_store : Stored
+empty_store = record {
+  verts = record { cells = []; names = [] };
+  edges = record { cells = []; names = [] };
+  loops = [];
+  faces = record { cells = []; names = [] };
+  values = no_values;
+}
 
 -- ---- fields
 

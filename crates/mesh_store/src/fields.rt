@@ -39,9 +39,7 @@ impl Store {
         requires { IsLive self.old.verts.cells s.0 }
         ensures { self.new ≡ change_vert (with_point to) self.old s.0 }
     {
-        let mut vert = *self.verts.get(s);
-        vert.point = to;
-        self.verts.set(s, vert);
+        self.verts.update(s, |vert| vert.point = to);
     }
 
     /// The edge with which a vertex's disk cycle begins, or `None`.
@@ -57,9 +55,7 @@ impl Store {
         requires { IsLive self.old.verts.cells s.0 }
         ensures { self.new ≡ change_vert (with_first_edge to) self.old s.0 }
     {
-        let mut vert = *self.verts.get(s);
-        vert.first_edge = to;
-        self.verts.set(s, vert);
+        self.verts.update(s, |vert| vert.first_edge = to);
     }
 }
 
@@ -93,9 +89,7 @@ impl Store {
         requires { IsLive self.old.edges.cells s.0 }
         ensures { self.new ≡ change_edge (with_ends to) self.old s.0 }
     {
-        let mut edge = *self.edges.get(s);
-        edge.ends = to;
-        self.edges.set(s, edge);
+        self.edges.update(s, |edge| edge.ends = to);
     }
 
     /// The loop with which an edge's radial cycle begins, or `None`.
@@ -111,9 +105,7 @@ impl Store {
         requires { IsLive self.old.edges.cells s.0 }
         ensures { self.new ≡ change_edge (with_first_loop to) self.old s.0 }
     {
-        let mut edge = *self.edges.get(s);
-        edge.first_loop = to;
-        self.edges.set(s, edge);
+        self.edges.update(s, |edge| edge.first_loop = to);
     }
 }
 
@@ -209,9 +201,7 @@ impl Store {
         requires { IsLive self.old.faces.cells s.0 }
         ensures { self.new ≡ change_face (with_face_loop to) self.old s.0 }
     {
-        let mut face = *self.faces.get(s);
-        face.first_loop = to;
-        self.faces.set(s, face);
+        self.faces.update(s, |face| face.first_loop = to);
     }
 
     /// The stored number of a face's loops. There are never as many loops as 32 bits could count.
@@ -228,8 +218,6 @@ impl Store {
         requires { IsLive self.old.faces.cells s.0 }
         ensures { self.new ≡ change_face (with_face_len to) self.old s.0 }
     {
-        let mut face = *self.faces.get(s);
-        face.len = to;
-        self.faces.set(s, face);
+        self.faces.update(s, |face| face.len = to);
     }
 }

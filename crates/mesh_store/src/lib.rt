@@ -19,16 +19,20 @@
 mod cells;
 mod fields;
 pub mod laws;
+mod layers;
 mod links;
 mod named_pool;
 mod store;
-#[cfg(test)]
-mod tests;
+mod values;
 
 pub use cells::{Dart, DiskLink, EdgeCell, FaceCell, LoopCell, Radial, Round, VertCell};
 // A crate can name a store in a contract only if the types of its fields are exported.
 #[doc(hidden)]
 pub use cells::Numbered;
+pub use cust_data::{LayerFault, Rule};
+#[doc(hidden)]
+pub use layers::Layers;
+pub use layers::Part;
 #[doc(hidden)]
 pub use named_pool::NamedPool;
 pub use raw_pool::{NoMemory, Slot};

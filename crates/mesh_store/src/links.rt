@@ -37,23 +37,19 @@ impl Links<Dart> for Store {
     }
 
     fn set_next(&mut self, d: Dart, to: Dart) {
-        let mut edge = *self.edges.get(d.edge);
         if d.side == 0 {
-            edge.disk_a.next = to;
+            self.edges.update(d.edge, |edge| edge.disk_a.next = to);
         } else {
-            edge.disk_b.next = to;
+            self.edges.update(d.edge, |edge| edge.disk_b.next = to);
         }
-        self.edges.set(d.edge, edge);
     }
 
     fn set_prev(&mut self, d: Dart, to: Dart) {
-        let mut edge = *self.edges.get(d.edge);
         if d.side == 0 {
-            edge.disk_a.prev = to;
+            self.edges.update(d.edge, |edge| edge.disk_a.prev = to);
         } else {
-            edge.disk_b.prev = to;
+            self.edges.update(d.edge, |edge| edge.disk_b.prev = to);
         }
-        self.edges.set(d.edge, edge);
     }
 
     ghost one_key = { Prim.search rules };

@@ -48,6 +48,11 @@ impl<T> Chunk<T> {
         }
     }
 
+    /// Does nothing. Its contract says that a place of a chunk can hold a link, which each chunk owns as a fact.
+    pub(crate) fn is_wide(&self)
+        ensures { HoldsLink T.row }
+    {}
+
     /// Moves a value into an empty place.
     pub(crate) fn write(&mut self, at: usize, value: T)
         requires { IsEmpty self.old.places at }

@@ -11,12 +11,9 @@ mod chunks;
 mod linked;
 mod pool;
 mod tags;
-#[cfg(test)]
-mod tests;
 
 // A crate can name a pool in a contract only if the types of its fields are exported.
 #[doc(hidden)]
 pub use chunk::Chunk;
 pub use pool::{NoMemory, Pool, Slot};
-#[doc(hidden)]
 pub use tags::Tags;

@@ -73,9 +73,9 @@ impl<T> Chunk<T> {
         requires len { length self.now.places ≡ len }
         requires tagged { TaggedFrom self.now.places tags.now.words.items start }
         requires room { start + len ≤ length tags.now.words.items * 64 }
-        requires wide { HoldsLink T.row }
         ensures { IfOk result (λ c. c.places ≡ self.now.places) }
     {
+        self.is_wide();
         if !may_hold::<T>(len) {
             return Err(AllocError);
         }

@@ -5,7 +5,7 @@ ghost use Rattle.raw_pool.specs.Ownership.{HoldsLink};
 ghost use Rattle.raw_pool.specs.Slots.{IsLive, spare_count, NoneLiveFrom, IsFirstLive, GrowsFor};
 
 use crate::chunk::Chunk;
-use crate::chunks::{copy_all, free_all};
+use crate::chunks::{copy_all, fill_first, free_all};
 use crate::tags::Tags;
 use std::alloc::{AllocError, Global};
 use std::marker::Model;
@@ -23,8 +23,8 @@ pub struct Slot(pub u32);
 /// is the capacity, and `spare_count` of it is the number of values that can come without memory.
 ///
 /// A vacant place holds a link of four bytes, the number of the next vacant one. So the size and
-/// the alignment of a `T` have to be multiples of 4 that aren't 0, which `reserve` and `copy` ask
-/// for by `HoldsLink`.
+/// the alignment of a `T` have to be multiples of 4 that aren't 0, which `reserve` asks for by
+/// `HoldsLink`.
 pub struct Pool<T, const CHUNK: usize> {
     chunks: Vec<Chunk<T>>,
     // Which places hold a value.
@@ -99,7 +99,7 @@ impl<T, const CHUNK: usize> Pool<T, CHUNK> {
         requires wide { HoldsLink T.row }
         ensures ok { OnOk result (n ≤ spare_count self.new) }
         ensures enough { n ≤ spare_count self.old → IsOk result × (self.new ≡ self.old) }
-        ensures grows { GrowsFor self.old self.new n (n + CHUNK) }
+        ensures grows { GrowsFor self.old self.new n CHUNK }
     {
         while self.spare < n {
             self.grow()?;
@@ -131,12 +131,40 @@ impl<T, const CHUNK: usize> Pool<T, CHUNK> {
         ensures gains { self.new ≡ slice_set self.old result.0 (Some value) }
         ensures spare { spare_count self.new + 1 ≡ spare_count self.old }
     {
-        let slot = self.head;
-        let chunk = &mut self.chunks[slot as usize / CHUNK];
-        self.head = chunk.fill(slot as usize % CHUNK, value);
-        self.tags.set(slot as usize);
+        let head = self.head;
+        self.head = fill_first(
+            &mut self.chunks,
+            &mut self.tags,
+            CHUNK,
+            head,
+            self.spare,
+            value,
+        );
         self.spare -= 1;
-        Slot(slot)
+        Slot(head)
+    }
+
+    /// Puts the value that `make` gives of a vacant slot into that slot, with no memory. But for `make` it takes
+    /// constant time. So a value that names its own slot is written once.
+    pub fn put_with<F: FnOnce(Slot) -> T>(&mut self, make: F) -> Slot
+        requires room { 1 ≤ spare_count self.old }
+        requires callable { F.IsAlwaysCallable make }
+        ensures vacant { (result.0 < length self.old) × (get_or self.old result.0 None ≡ None) }
+        ensures gains { (x : T) × F.post make result x × (self.new ≡ slice_set self.old result.0 (Some x)) }
+        ensures spare { spare_count self.new + 1 ≡ spare_count self.old }
+    {
+        let slot = Slot(self.head);
+        let value = make(slot);
+        self.head = fill_first(
+            &mut self.chunks,
+            &mut self.tags,
+            CHUNK,
+            slot.0,
+            self.spare,
+            value,
+        );
+        self.spare -= 1;
+        slot
     }
 
     /// Moves the value out of a live slot, in constant time. The next `put` gives this slot.
@@ -181,9 +209,8 @@ impl<T, const CHUNK: usize> Pool<T, CHUNK> {
         self.first_from(0)
     }
 
-    /// The least live slot above `s`. It reads a word for each 64 vacant slots between them.
+    /// The least live slot above `s`, live or not. It reads a word for each 64 vacant slots between them.
     pub fn after(&self, s: Slot) -> Option<Slot>
-        requires { IsLive self.now s.0 }
         ensures { MatchOption result (NoneLiveFrom self.now (s.0 + 1)) (λ t. IsFirstLive self.now (s.0 + 1) t.0) }
     {
         self.first_from(s.0 as usize + 1)
@@ -203,7 +230,6 @@ impl<T, const CHUNK: usize> Pool<T, CHUNK> {
     pub fn copy(&self, alloc: Global) -> Result<Pool<T, CHUNK>, NoMemory>
     where
         T: Copy,
-        requires wide { HoldsLink T.row }
         ensures { IfOk result (λ p. p ≡ self.now) }
     {
         let tags = self.tags.copy(alloc)?;

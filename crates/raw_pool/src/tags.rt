@@ -1,5 +1,5 @@
-//! Which places hold a value: one bit for each, in words of 64.
-ghost use Rattle.std.specs.Prelude.{◌≡◌, ℕ, ◌<◌, ◌≤◌, ◌*◌, ◌^◌, [], length, vec_len, OnOk, IfOk, IsTrue, ◌↔◌, MatchOption};
+//! One bit for each place, in words of 64: which places of a pool hold a value, say.
+ghost use Rattle.std.specs.Prelude.{◌≡◌, ℕ, ◌<◌, ◌≤◌, ◌*◌, ◌^◌, [], length, vec_len, OnOk, IfOk, IsOk, IsTrue, ◌↔◌, MatchOption};
 ghost use Rattle.raw_pool.specs.Tags.{tag_at, SameTags, ChangesTag, NoTagFrom, IsFirstTag};
 
 use std::alloc::{AllocError, Global};
@@ -7,7 +7,9 @@ use std::alloc::{AllocError, Global};
 // The bits in a word.
 const WORD: usize = 64;
 
-/// A bit for each of fewer than 2^32 places.
+/// A bit for each of fewer than 2^32 places. The next one that is set is found 64 at a time.
+///
+/// Contracts see the bit of a place as `tag_at` of the words, which is 0 past the last one.
 #[derive(Drop)]
 pub struct Tags {
     words: Vec<u64>,
@@ -15,7 +17,8 @@ pub struct Tags {
 }
 
 impl Tags {
-    pub(crate) fn new(alloc: Global) -> Tags
+    /// No bit is set. Takes no memory.
+    pub fn new(alloc: Global) -> Tags
         ensures { result.words.items ≡ [] }
     {
         Tags {
@@ -23,12 +26,15 @@ impl Tags {
         }
     }
 
-    /// Room for the bits of `places` places, in time that grows with their number.
-    pub(crate) fn cover(&mut self, places: usize) -> Result<(), AllocError>
+    /// Makes room for the bits of `places` places, in time that grows with the number of new ones. No bit changes.
+    ///
+    /// After an error, which is want of memory, some of the room may have been made.
+    pub fn cover(&mut self, places: usize) -> Result<(), AllocError>
         requires { places < 2 ^ 32 }
         ensures same { SameTags self.old.words.items self.new.words.items }
         ensures grows { length self.old.words.items ≤ length self.new.words.items }
         ensures ok { OnOk result (places ≤ length self.new.words.items * 64) }
+        ensures enough { places ≤ length self.old.words.items * 64 → IsOk result }
     {
         let count = places.div_ceil(WORD);
         while self.words.len() < count {
@@ -45,15 +51,16 @@ impl Tags {
         Ok(Tags { words })
     }
 
-    /// Whether the bit is set.
-    pub(crate) fn has(&self, at: usize) -> bool
+    /// Whether a bit is set, for which there is room. Constant time.
+    pub fn has(&self, at: usize) -> bool
         requires { at < length self.now.words.items * 64 }
         ensures { IsTrue result ↔ (tag_at self.now.words.items at ≡ 1) }
     {
         self.words[at / WORD] >> (at % WORD) & 1 == 1
     }
 
-    pub(crate) fn set(&mut self, at: usize)
+    /// Sets a bit for which there is room. Constant time.
+    pub fn set(&mut self, at: usize)
         requires { at < length self.old.words.items * 64 }
         ensures tags { ChangesTag self.old.words.items self.new.words.items at 1 }
         ensures len { length self.new.words.items ≡ length self.old.words.items }
@@ -62,7 +69,8 @@ impl Tags {
         *word |= 1 << (at % WORD);
     }
 
-    pub(crate) fn clear(&mut self, at: usize)
+    /// Clears a bit for which there is room. Constant time.
+    pub fn clear(&mut self, at: usize)
         requires { at < length self.old.words.items * 64 }
         ensures tags { ChangesTag self.old.words.items self.new.words.items at 0 }
         ensures len { length self.new.words.items ≡ length self.old.words.items }
@@ -72,7 +80,7 @@ impl Tags {
     }
 
     /// The first set bit from `low` on. It reads a word for each 64 bits on the way.
-    pub(crate) fn first_from(&self, low: usize) -> Option<usize>
+    pub fn first_from(&self, low: usize) -> Option<usize>
         ensures { MatchOption result (NoTagFrom self.now.words.items low) (IsFirstTag self.now.words.items low) }
     {
         let mut index = low / WORD;

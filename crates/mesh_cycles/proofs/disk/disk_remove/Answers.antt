@@ -5,5 +5,4 @@ pub returns : goal.returns
 returns c =
     let removed = disk_removed c.args.st.now c.take_member-head.new.links c.set_first_dart.new.st c.args.v.0 c.args.d c.requires.cycles c.requires.live c.requires.member c.first_dart-first.ensures c.take_member-head.ensures.reads c.take_member-head.ensures.others
     (record { rest = c.take_member-head.ensures.rest; write = c.set_first_dart.ensures }) in
-    let e = removed.0 in
-    record { own = e.own; links = e.links; out = removed.1; others = e.others; radials = e.radials; rounds = e.rounds; rest = e.rest; cycles = e.cycles }
+    record { edits = removed.0; out = removed.1 }

@@ -4,9 +4,8 @@ use Rattle.link_ring.proofs.Members.{member_of}
 use Rattle.mesh_cycles.specs.Owners.{face_of}
 use Rattle.mesh_cycles.specs.Lists.{same_round, with_behind}
 use Rattle.mesh_cycles.specs.Cycles.{IsCounted}
-use Rattle.mesh_cycles.specs.Edits.{beside_round}
 use Rattle.mesh_cycles.proofs.LoopCalls.{named_face, face_live}
-use Rattle.mesh_cycles.proofs.Counts.{IsRecounted, recounted, same_through}
+use Rattle.mesh_cycles.proofs.Counts.{IsRecounted, recounted, edited_through}
 use Rattle.mesh_cycles.proofs.face_loops.loop_insert.Goals as goal
 
 pub count_loops-requires-clause-live : goal.count_loops-requires-clause-live
@@ -33,16 +32,7 @@ returns c =
     let st = c.args.st.now in let mid = c.count_loops.new.st in let face = c.loop_face-face.result in
     let a = named_face st c.args.after face c.requires.cycles c.requires.member c.loop_face-face.ensures in
     let r = recounted st mid face c.requires.cycles (face_live st face.0 (record { 0 = c.args.after }) a.member) c.count_loops.ensures in
-    let e = c.loop_insert_counted.ensures in
-    let named : (f : ℕ) → face_of st c.args.after ≡ Some f → face_of mid c.args.after ≡ Some f = λ f is. r.faces c.args.after ∙ is in
-    let P = λ (f : ℕ). beside_round mid f ≡ beside_round st f in
-    record {
-      own = λ f is. e.own f (named f is) ∙ ap (with_behind same_round (record { 0 = c.args.after }) (record { 0 = c.args.l })) (r.same.rounds f);
-      links = λ f is. (let P = IsRecounted st mid in same_through c.loop_insert_counted.new.st (λ ls. record { 0 = c.args.l } ∷ ls) (subst P (same_Some _ _ (sym a.face ∙ is)) r) (e.links f (named f is)));
-      len = λ f is. e.len f (named f is);
-      disks = λ v. e.disks v ∙ r.same.disks v;
-      radials = λ d. e.radials d ∙ r.same.radials d;
-      others = λ f is g ne. e.others f (named f is) g ne ∙ r.same.rounds g;
-      rest = λ f is. e.rest f (named f is) ∙ subst P (same_Some _ _ (sym a.face ∙ is)) r.rest;
-      cycles = e.cycles;
-    }
+    λ f is.
+    let of_f = subst (IsRecounted st mid) (same_Some _ _ (sym a.face ∙ is)) r in
+    edited_through c.loop_insert_counted.new.st (λ ls. record { 0 = c.args.l } ∷ ls) (with_behind same_round (record { 0 = c.args.after }) (record { 0 = c.args.l })) of_f
+    (c.loop_insert_counted.ensures f (r.faces c.args.after ∙ is))

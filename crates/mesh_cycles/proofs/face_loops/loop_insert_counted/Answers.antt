@@ -29,19 +29,6 @@ overflow_add-len c =
 
 pub returns : goal.returns
 returns c =
-    let f = c.loop_face-face.result.0 in
-    let named = names_face (at c.args.st.now.loops c.args.after.0) c.loop_face-face.result c.loop_face-face.ensures in
-    let edited = loop_inserted c.args.st.now c.insert_after.new.links c.set_face_len.new.self (record { 0 = c.args.after }) (record { 0 = c.args.l }) c.loop_face-face.result c.face_len-len.result
+    loop_inserted c.args.st.now c.insert_after.new.links c.set_face_len.new.self (record { 0 = c.args.after }) (record { 0 = c.args.l }) c.loop_face-face.result c.face_len-len.result
     c.requires.cycles c.requires.member c.requires.counted c.requires.same c.loop_face-face.ensures c.face_len-len.ensures.len c.insert_after.ensures.ring c.insert_after.ensures.others
-    (record { rest = c.insert_after.ensures.rest; write = c.set_face_len.ensures; covered = λ k. refl }) in
-    let e = edited f named in
-    record {
-      own = λ g is. (edited g is).own;
-      len = λ g is. (edited g is).len;
-      links = λ g is. (edited g is).links;
-      disks = e.disks;
-      radials = e.radials;
-      others = λ g is. (edited g is).others;
-      rest = λ g is. (edited g is).rest;
-      cycles = e.cycles;
-    }
+    (record { rest = c.insert_after.ensures.rest; write = c.set_face_len.ensures; covered = λ k. refl })

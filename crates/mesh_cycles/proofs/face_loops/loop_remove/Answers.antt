@@ -1,7 +1,7 @@
 use Rattle.std.proofs.Common.{sym, ap, ◌∙◌}
 use Rattle.link_ring.proofs.Members.{member_of}
 use Rattle.mesh_cycles.specs.Lists.{same_round, without}
-use Rattle.mesh_cycles.proofs.Counts.{recounted, same_through}
+use Rattle.mesh_cycles.proofs.Counts.{recounted, edited_through}
 use Rattle.mesh_cycles.proofs.face_loops.loop_remove.Goals as goal
 
 pub loop_remove_counted-requires : goal.loop_remove_counted-requires
@@ -17,15 +17,7 @@ loop_remove_counted-requires c =
 pub returns : goal.returns
 returns c =
     let r = recounted c.args.st.now c.count_loops.new.st c.args.f c.requires.cycles c.requires.live c.count_loops.ensures in
-    let e = c.loop_remove_counted.ensures in
     record {
-      own = e.own ∙ ap (without same_round (record { 0 = c.args.l })) (r.same.rounds c.args.f.0);
-      links = same_through c.loop_remove_counted.new.st (λ ls. ls) r e.links;
-      len = e.len;
-      out = e.out;
-      disks = λ v. e.disks v ∙ r.same.disks v;
-      radials = λ d. e.radials d ∙ r.same.radials d;
-      others = λ g ne. e.others g ne ∙ r.same.rounds g;
-      rest = e.rest ∙ r.rest;
-      cycles = e.cycles;
+      edits = edited_through c.loop_remove_counted.new.st (λ ls. ls) (without same_round (record { 0 = c.args.l })) r c.loop_remove_counted.ensures.edits;
+      out = c.loop_remove_counted.ensures.out;
     }

@@ -1,0 +1,9 @@
+//! Tests of the crates under the mesh: pools, rings, the store and its cycles.
+//!
+//! They stand apart from those crates, since a crate is proved a second time with its tests.
+#![tactic(auto)]
+
+#[cfg(test)]
+mod pools;
+#[cfg(test)]
+mod rings;
