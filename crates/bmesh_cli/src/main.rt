@@ -1,52 +1,37 @@
 //! The program: it runs a script of commands over a Wavefront OBJ model.
 #![tactic(auto)]
 
-mod bytes;
-mod commands;
-mod entry;
-mod fault;
-mod folder;
-mod host;
-mod input;
-mod inputs;
-mod job;
-mod laws;
-mod memory;
-mod output;
-mod report;
-mod run;
-mod start;
-mod status;
-mod stop;
-mod store;
-mod sure;
-#[cfg(test)]
-mod tests;
-mod unread;
-mod world;
+ghost use Rattle.std.specs.Prelude.{◌≡◌};
 
-use host::HostWorld;
+use bmesh_run::run;
 use mesh_session::Session;
-use run::run;
+use std::io::ErrorKind;
 use std::process::ExitCode;
 use std::{env, io};
+use worlds::HostWorld;
 
-// Exits with the run's status; with 7 where the words can't be got for want of memory, and with 8
-// where they can't be got for another cause.
+// Exits with the run's status, or with that of the fault where the words can't be got.
 fn main(rt: HostRuntime) -> ExitCode {
     let alloc = rt.alloc();
     match words_of(&rt) {
         Ok(words) => {
             let mut session = Session::new(alloc);
-            let mut world = HostWorld::new(rt, alloc);
+            let mut world = HostWorld::new(rt);
             let status = run(alloc, &words, &mut session, &mut world);
             ExitCode::from(status.code())
         }
-        Err(fault) => ExitCode::from(if fault.kind() == io::ErrorKind::OutOfMemory {
-            7
-        } else {
-            8
-        }),
+        Err(fault) => ExitCode::from(code_without_words(fault.kind())),
+    }
+}
+
+// The exit status where the words can't be got: 7 for want of memory, and 8 for any other cause.
+fn code_without_words(fault: ErrorKind) -> u8
+    ensures memory { fault ≡ ErrorKind.OutOfMemory → result ≡ 7 }
+    ensures other { (fault ≡ ErrorKind.OutOfMemory → ⊥) → result ≡ 8 }
+{
+    match fault {
+        ErrorKind::OutOfMemory => 7,
+        _ => 8,
     }
 }
 

@@ -1,18 +1,47 @@
 -- A session stays sound.
-use Rattle.std.proofs.Common.{◌≡◌, List, subst, sym, arith}
-use Rattle.std.proofs.lemmas.List.Elements.{All-push}
-use Rattle.mesh_model.specs.Complex.{Complex}
-use Rattle.mesh_model.specs.Valid.{IsSound}
-use Rattle.mesh_model.specs.Deleting.{without_verts}
-use Rattle.mesh_model.specs.declared.names.VertName.{VertName}
-use Rattle.mesh_model.proofs.Valids.{IsValid-without_verts, IsSimple-without_verts}
-use Rattle.mesh_session.specs.State.{State, IsSoundState, advanced}
+use Rattle.std.proofs.Common.{◌≡◌, ◌∙◌, List, [], ◌∷◌, ◌++◌, Option, Some, None, refl, subst, sym, ap, arith}
+use Rattle.std.specs.Prelude.{option_to_list}
+use Rattle.std.specs.List.{All, cons_option}
+use Rattle.std.proofs.lemmas.List.Elements.{All-push, filter_map-append}
+use Rattle.plain_model.specs.Complex.{Complex}
+use Rattle.plain_model.specs.Valid.{IsSound}
+use Rattle.plain_model.specs.Deleting.{without_verts}
+use Rattle.plain_model.specs.declared.names.VertName.{VertName}
+use Rattle.plain_model.proofs.Valids.{IsValid-without_verts, IsSimple-without_verts}
+use Rattle.mesh_session.specs.State.{State, bindings_of, state_with, IsSoundState, next_state}
+use Rattle.mesh_session.specs.declared.entry.Binding.{Binding}
+use Rattle.mesh_session.specs.declared.entry.Entry.{Entry}
+
+one : (b : Option Binding) → cons_option b [] ≡ option_to_list b
+one None = refl
+one (Some b) = refl
+
+-- one entry more
+bindings_of-push : (es : List Entry) (e : Entry) → bindings_of (es ++ e ∷ []) ≡ bindings_of es ++ option_to_list e.binding
+bindings_of-push es e =
+    filter_map-append (λ (x : Entry). x.binding) es (e ∷ [])
+    ∙ ap (λ (bs : List Binding). bindings_of es ++ bs) (one e.binding)
 
 -- vertices are deleted
 pub IsSound-without_verts : (c : Complex) (vs : List VertName) → IsSound c → IsSound (without_verts c vs)
-IsSound-without_verts c vs h = record { valid = IsValid-without_verts c vs h.valid; simple = IsSimple-without_verts c vs h.simple }
+IsSound-without_verts c vs h =
+    record { valid = IsValid-without_verts c vs h.valid; simple = IsSimple-without_verts c vs h.simple }
 
 -- a sound session goes on to a sound complex
-pub IsSoundState-advanced : (s new : State) (next : Complex) → new ≡ advanced s next → IsSoundState s → IsSound next → IsSoundState new
-IsSoundState-advanced s new next is h sound =
-    subst IsSoundState (sym is) (record { now = sound; undo = All-push IsSound s.undo s.now h.undo h.now; redo = λ k d less. absurd (omega arith) })
+pub IsSoundState-next_state : (s new : State) (b : Option Binding) (next : Complex) → new ≡ next_state s b next
+    → IsSoundState s → IsSound next → IsSoundState new
+IsSoundState-next_state s new b next is h sound =
+    subst IsSoundState (sym is) (record {
+      now = sound;
+      undo = All-push (λ (e : Entry). IsSound e.complex) s.undo (record { complex = s.now; binding = b }) h.undo h.now;
+      redo = λ k d less. absurd (omega arith);
+      bindings = rw h.bindings (sym (bindings_of-push s.undo (record { complex = s.now; binding = b })));
+    })
+
+-- the view of a session that went on
+pub state_with-next : (now next : Complex) (undo redo : List Entry) (b : Option Binding)
+    → state_with next (undo ++ record { complex = now; binding = b } ∷ []) [] ≡ next_state (state_with now undo redo) b next
+state_with-next now next undo redo b =
+    let more : List Entry = undo ++ record { complex = now; binding = b } ∷ [] in
+    ap (λ (bs : List Binding). record { now = next; bindings = bs; undo = more; redo = [] })
+    (bindings_of-push undo (record { complex = now; binding = b }))

@@ -1,4 +1,5 @@
 pub mod Arguments
 pub mod Operators
 pub mod State
+pub mod Steps
 pub mod Rows

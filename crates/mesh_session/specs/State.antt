@@ -1,55 +1,52 @@
--- What a session is, and what commands do to it.
-use Rattle.std.specs.Prelude.{List, [], ◌∷◌, ◌++◌, Result, Ok, Err}
-use Rattle.std.specs.List.{All}
-use Rattle.mesh_model.specs.Complex.{Complex, no_complex}
-use Rattle.mesh_model.specs.Valid.{IsSound}
-use Rattle.mesh_model.specs.declared.refusal.Refusal.{Refusal}
-use Rattle.mesh_model.specs.declared.slots.Slots.{Slots}
-use Rattle.mesh_model.specs.declared.slots.Command.{Command}
-use Rattle.mesh_model.specs.declared.slots.What.{What}
-use Rattle.mesh_model.specs.declared.slots.What.TheVariants.{Run}
-use Rattle.mesh_session.specs.Operators.{applied}
-use Rattle.mesh_session.specs.declared.reply.Reply.{Reply}
-use Rattle.mesh_session.specs.declared.reply.Reply.TheVariants.{Done, Refused}
+-- What a session is.
+use Rattle.std.specs.Prelude.{◌≡◌, List, [], ◌∷◌, ◌++◌, option_to_list}
+use Rattle.std.specs.declared.option.Option.{Option}
+use Rattle.std.specs.List.{All, filter_map}
+use Rattle.plain_model.specs.Complex.{Complex, no_complex}
+use Rattle.plain_model.specs.Valid.{IsSound}
+use Rattle.mesh_session.specs.declared.entry.Binding.{Binding}
+use Rattle.mesh_session.specs.declared.entry.Entry.{Entry}
 
--- the complex now, those that undo goes back to, the oldest first, and those that redo goes on to
+-- the complex now, the bindings in the order made, and the entries that undo and redo go to, the next one last
 pub record State : Type 0 where
   pub now : Complex
-  pub undo : List Complex
-  pub redo : List Complex
+  pub bindings : List Binding
+  pub undo : List Entry
+  pub redo : List Entry
 
--- nothing is there, no name was given, and there is nothing to go back or on to
-abbrev pub fresh : State
-fresh = record { now = no_complex; undo = []; redo = [] }
+-- what a session shows: its state
+pub record View : Type 0 where
+  pub state : State
+
+-- nothing is there, no name was given, nothing is bound, and there is nothing to go back or on to
+abbrev pub fresh_state : State
+fresh_state = record { now = no_complex; bindings = []; undo = []; redo = [] }
 
 -- a complex was loaded, and no command was given
-abbrev pub loaded : Complex → State
-loaded c = record { now = c; undo = []; redo = [] }
+abbrev pub first_state : Complex → State
+first_state c = record { now = c; bindings = []; undo = []; redo = [] }
 
--- each complex of a session is valid and simple
+-- the bindings that some entries have, in their order
+abbrev pub bindings_of : List Entry → List Binding
+bindings_of entries = filter_map (λ (e : Entry). e.binding) entries
+
+-- the state of a complex and two lists of entries: what is bound now is what undo would take away
+abbrev pub state_with : Complex → List Entry → List Entry → State
+state_with now undo redo = record { now = now; bindings = bindings_of undo; undo = undo; redo = redo }
+
+-- each complex of a session is valid and simple, and what is bound now is what undo would take away
 pub record IsSoundState (s : State) : Type 0 where
   pub now : IsSound s.now
-  pub undo : All IsSound s.undo
-  pub redo : All IsSound s.redo
+  pub undo : All (λ (e : Entry). IsSound e.complex) s.undo
+  pub redo : All (λ (e : Entry). IsSound e.complex) s.redo
+  pub bindings : s.bindings ≡ bindings_of s.undo
 
--- the next complex is the one now, undo goes back to the one before, and nothing can be redone
-abbrev pub advanced : State → Complex → State
-advanced s next = record { now = next; undo = s.undo ++ s.now ∷ []; redo = [] }
-
--- the reply to an operator's result, and the state then: refused, it is the same; done, it has gone on to the operator's complex
-abbrev pub ran : State → Result (Slots × Complex) Refusal → Reply × State
-ran s (Err r) = (Refused r, s)
-ran s (Ok done) = (Done done.0, advanced s done.1)
-
--- the reply to what a command does, and the state then
-abbrev pub acted : State → What → Reply × State
-acted s (Run op) = ran s (applied s.now op)
-
--- the reply to a command, and the state then
-abbrev pub step : State → Command → Reply × State
-step s c = acted s c.what
-
--- the replies to some commands in order, and the last state
-abbrev pub steps : State → List Command → List Reply × State
-steps s [] = ([], s)
-steps s (c ∷ cs) = let one = step s c in let rest = steps one.1 cs in (one.0 ∷ rest.0, rest.1)
+-- the next complex is the one now, undo goes back to the one before and takes the binding away, and nothing can be
+-- redone
+abbrev pub next_state : State → Option Binding → Complex → State
+next_state s b next = record {
+  now = next;
+  bindings = s.bindings ++ option_to_list b;
+  undo = s.undo ++ record { complex = s.now; binding = b } ∷ [];
+  redo = [];
+}

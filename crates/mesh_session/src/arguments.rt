@@ -4,8 +4,8 @@ ghost use Rattle.std.specs.Prelude.{◌≡◌, slice_get, IfOk};
 ghost use Rattle.std.specs.List.{filter_map};
 ghost use Rattle.mesh_session.specs.Arguments.{term_fault, vert_of, named_verts};
 
-use mesh_model::slots::Term;
-use mesh_model::{Draft, Elem, NoMemory, Place, Refusal, Sequence, Shape, VertName, Why};
+use plain_model::slots::Term;
+use plain_model::{Draft, Elem, NoMemory, Place, Refusal, Sequence, Shape, VertName, Why};
 use std::alloc::Global;
 
 // The vertices that some terms stand for, or the refusal of the first term that can't stand here.
@@ -27,7 +27,7 @@ pub fn named_verts(
             place: Place::Nowhere,
         }));
     }
-    Ok(Ok(Sequence::from_vec(verts)))
+    Ok(Ok(Sequence::from(verts)))
 }
 
 // The refusal of the first term that can't stand where vertices are wanted.

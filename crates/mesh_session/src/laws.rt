@@ -1,6 +1,7 @@
 //! Commands on the square, worked out. The checker proves each statement, and no call does anything.
 
-ghost use Rattle.mesh_session.specs.Rows.{CutsACorner, RefusesAMissingVertex, RefusesOtherTerms, DeletesOnce, NoCommand};
+ghost use Rattle.mesh_session.specs.Rows.{CutsACorner, DeletesOnce, NoCommand, RefusesAMissingVertex};
+ghost use Rattle.mesh_session.specs.Rows.{RefusesOtherTerms};
 
 /// Single commands, done and refused.
 pub fn single()

@@ -2,11 +2,10 @@
 #![tactic(auto)]
 
 mod arguments;
+mod entry;
 pub mod laws;
 mod reply;
 mod session;
-#[cfg(test)]
-mod tests;
 
 pub use reply::Reply;
 pub use session::Session;

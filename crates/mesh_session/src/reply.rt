@@ -3,8 +3,8 @@
 ghost use Rattle.std.specs.Prelude.{◌≡◌};
 ghost use Rattle.mesh_session.specs.Operators.{no_slots};
 
-use mesh_model::slots::{Buffer, Slots};
-use mesh_model::{Refusal, Sequence};
+use plain_model::slots::{Buffer, Slots};
+use plain_model::{Refusal, Sequence};
 use std::alloc::Global;
 
 /// The answer to a command.

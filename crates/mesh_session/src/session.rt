@@ -1,42 +1,45 @@
 ghost use Rattle.std.specs.Prelude.{◌≡◌, [], ◌∷◌, ◌++◌, OnErr, OnOk, IfOk, length};
 ghost use Rattle.std.specs.List.{All};
-ghost use Rattle.mesh_model.specs.Table.{IsThere};
-ghost use Rattle.mesh_model.specs.Deleting.{without_verts};
-ghost use Rattle.mesh_model.specs.Valid.{IsSimple, IsSound};
-ghost use Rattle.mesh_session.specs.Operators.{applied};
-ghost use Rattle.mesh_session.specs.State.{fresh, loaded, IsSoundState, advanced, ran, step};
+ghost use Rattle.plain_model.specs.Table.{IsThere};
+ghost use Rattle.plain_model.specs.Deleting.{without_verts};
+ghost use Rattle.plain_model.specs.Valid.{IsSound};
+ghost use Rattle.mesh_session.specs.Operators.{op_result};
+ghost use Rattle.mesh_session.specs.State.{fresh_state, first_state, next_state, IsSoundState};
+ghost use Rattle.mesh_session.specs.Steps.{no_binding, with_result, step};
 
 use crate::arguments::named_verts;
+use crate::entry::{Binding, Entry};
 use crate::reply::{Reply, no_slots};
-use mesh_model::slots::{Command, Context, Expr, Op, What};
-use mesh_model::{Counters, Draft, EdgeName, Elem, FaceName, NoMemory, Point, Shape, VertName};
+use plain_model::slots::{Command, Context, Expr, Op, What};
+use plain_model::{Counters, Draft, EdgeName, Elem, FaceName, NoMemory, Point, Shape, VertName};
 use std::alloc::Global;
 use std::marker::Model;
 use std::mem;
 
-/// A complex under edit, with the complexes that undo goes back to. Each is always valid and simple.
+/// A complex under edit, with the complexes that undo and redo go to. Each is always valid and simple.
 #[derive(Drop)]
 pub struct Session {
     alloc: Global,
     current: Draft,
-    undo: Vec<Draft>,
-    redo: Vec<Draft>,
+    undo: Vec<Entry>,
+    redo: Vec<Entry>,
 }
 
 impl Model for Session {
-    ghost use Rattle.mesh_session.specs.State.{State, IsSoundState};
+    ghost use Rattle.mesh_session.specs.State.{View, IsSoundState, state_with};
 
-    ghost Value = { State };
+    ghost Value = { View };
 
-    ghost view = { λ s. record { now = s.current; undo = s.undo.items; redo = s.redo.items } };
+    ghost view = { λ s. record { state = state_with s.current s.undo.items s.redo.items } };
 
-    ghost invariant = { λ s. IsSoundState (record { now = s.current; undo = s.undo.items; redo = s.redo.items }) };
+    ghost invariant = { λ s. IsSoundState (state_with s.current s.undo.items s.redo.items) };
 }
 
 impl Session {
     /// A fresh session: nothing is there, and nothing can be undone. Takes no memory.
     pub fn new(alloc: Global) -> Session
-        ensures { result ≡ fresh }
+        ensures fresh { result.state ≡ fresh_state }
+        ensures sound { IsSoundState result.state }
     {
         Session {
             alloc,
@@ -49,32 +52,34 @@ impl Session {
     /// Loads a complex into a fresh session, in time proportional to the complex. After `NoMemory` the
     /// session is fresh.
     pub fn load(&mut self, draft: &Draft) -> Result<(), NoMemory>
-        requires fresh { self.old ≡ fresh }
-        requires simple { IsSimple draft.now }
-        ensures ok { OnOk result (self.new ≡ loaded draft.now) }
-        ensures err { OnErr result (self.new ≡ fresh) }
-        ensures sound { IsSoundState self.new }
+        requires fresh { self.old.state ≡ fresh_state }
+        requires sound { IsSound draft.now }
+        ensures ok { OnOk result (self.new.state ≡ first_state draft.now) }
+        ensures err { OnErr result (self.new.state ≡ fresh_state) }
+        ensures sound { IsSoundState self.new.state }
     {
         self.current = draft.copy()?;
         Ok(())
     }
 
-    /// Runs one command. After `Refused` and after `NoMemory` the session is as before.
+    /// Runs one command. After `Refused` and after `NoMemory` the state is as before.
     /// In time proportional to the complex, which undo keeps as a whole copy.
     pub fn step(&mut self, c: &Command) -> Result<Reply, NoMemory>
-        ensures ok { IfOk result (λ reply. (reply, self.new) ≡ step self.old c.now) }
-        ensures err { OnErr result (self.new ≡ self.old) }
-        ensures sound { IsSoundState self.new }
+        ensures ok { IfOk result (λ reply. (reply, self.new.state) ≡ step self.old.state c.now) }
+        ensures err { OnErr result (self.new.state ≡ self.old.state) }
+        ensures sound { IsSoundState self.new.state }
     {
         match &c.what {
             What::Run(op) => self.run(op),
         }
     }
 
+    // Runs an operator. Nothing is bound.
     fn run(&mut self, op: &Op) -> Result<Reply, NoMemory>
-        ensures ok { IfOk result (λ reply. (reply, self.new) ≡ ran self.old (applied self.old.now op.now)) }
-        ensures err { OnErr result (self.new ≡ self.old) }
-        ensures sound { IsSoundState self.new }
+        ensures ok { IfOk result (λ reply. (reply, self.new.state)
+            ≡ with_result self.old.state no_binding (op_result self.old.state op.now)) }
+        ensures err { OnErr result (self.new.state ≡ self.old.state) }
+        ensures sound { IsSoundState self.new.state }
     {
         match op {
             Op::Delete { geom, context } => self.delete(geom, *context),
@@ -82,9 +87,10 @@ impl Session {
     }
 
     fn delete(&mut self, geom: &Expr, context: Context) -> Result<Reply, NoMemory>
-        ensures ok { IfOk result (λ reply. (reply, self.new) ≡ ran self.old (applied self.old.now (Op.Delete geom.now context))) }
-        ensures err { OnErr result (self.new ≡ self.old) }
-        ensures sound { IsSoundState self.new }
+        ensures ok { IfOk result (λ reply. (reply, self.new.state)
+            ≡ with_result self.old.state no_binding (op_result self.old.state (Op.Delete geom.now context))) }
+        ensures err { OnErr result (self.new.state ≡ self.old.state) }
+        ensures sound { IsSoundState self.new.state }
     {
         let Context::Verts = context;
         match named_verts(self.alloc, &self.current, geom.as_slice())? {
@@ -98,62 +104,74 @@ impl Session {
 
     // Deletes vertices that are there.
     fn delete_verts(&mut self, verts: &[VertName]) -> Result<(), NoMemory>
-        requires { All (λ v. IsThere self.old.now.verts v.0) verts.now }
-        ensures ok { OnOk result (self.new ≡ advanced self.old (without_verts self.old.now verts.now)) }
-        ensures err { OnErr result (self.new ≡ self.old) }
-        ensures sound { IsSoundState self.new }
+        requires { All (λ v. IsThere self.old.state.now.verts v.0) verts.now }
+        ensures ok { OnOk result (self.new.state
+            ≡ next_state self.old.state None (without_verts self.old.state.now verts.now)) }
+        ensures err { OnErr result (self.new.state ≡ self.old.state) }
+        ensures sound { IsSoundState self.new.state }
     {
         let next = self.current.without_verts(verts)?;
-        self.advance(next)
+        self.advance(next, None)
     }
 
-    // Goes on to a sound complex, keeps the one before for undo, and leaves nothing to redo.
-    fn advance(&mut self, next: Draft) -> Result<(), NoMemory>
+    // Goes on to a sound complex with a binding, keeps the complex before for undo, and leaves nothing to redo.
+    fn advance(&mut self, next: Draft, binding: Option<Binding>) -> Result<(), NoMemory>
         requires { IsSound next }
-        ensures ok { OnOk result (self.new ≡ advanced self.old next) }
-        ensures err { OnErr result (self.new ≡ self.old) }
-        ensures sound { IsSoundState self.new }
+        ensures ok { OnOk result (self.new.state ≡ next_state self.old.state binding next) }
+        ensures err { OnErr result (self.new.state ≡ self.old.state) }
+        ensures sound { IsSoundState self.new.state }
     {
-        put_next(&mut self.current, &mut self.undo, &mut self.redo, next)?;
+        put_next(
+            &mut self.current,
+            &mut self.undo,
+            &mut self.redo,
+            next,
+            binding,
+        )?;
         Ok(())
     }
 
     /// The number of commands that can be undone.
     pub fn undo_len(&self) -> usize
-        ensures { result ≡ length self.now.undo }
+        ensures { result ≡ length self.now.state.undo }
     {
         self.undo.len()
     }
 
     /// The number of commands that can be redone.
     pub fn redo_len(&self) -> usize
-        ensures { result ≡ length self.now.redo }
+        ensures { result ≡ length self.now.state.redo }
     {
         self.redo.len()
     }
 }
 
-// Puts a complex in the place of the current one, which goes to the end of the undo list, and empties the redo list.
+// Puts a complex in the place of the current one, which goes to the end of the undo list with the binding, and
+// empties the redo list.
 fn put_next(
     current: &mut Draft,
-    undo: &mut Vec<Draft>,
-    redo: &mut Vec<Draft>,
+    undo: &mut Vec<Entry>,
+    redo: &mut Vec<Entry>,
     next: Draft,
+    binding: Option<Binding>,
 ) -> Result<(), NoMemory>
     ensures now { OnOk result (current.new ≡ next) }
-    ensures undo { OnOk result (undo.new.items ≡ undo.old.items ++ current.old ∷ []) }
+    ensures undo { OnOk result (undo.new.items
+        ≡ undo.old.items ++ record { complex = current.old; binding = binding } ∷ []) }
     ensures redo { OnOk result (redo.new.items ≡ []) }
-    ensures err { OnErr result ((current.new ≡ current.old) × (undo.new.items ≡ undo.old.items) × (redo.new.items ≡ redo.old.items)) }
+    ensures err { OnErr result (current.new ≡ current.old) }
+    ensures undo_err { OnErr result (undo.new.items ≡ undo.old.items) }
+    ensures redo_err { OnErr result (redo.new.items ≡ redo.old.items) }
 {
     undo.reserve(1)?;
-    let before = mem::replace(current, next);
-    undo.push(before)?;
+    let complex = mem::replace(current, next);
+    undo.push(Entry { complex, binding })?;
     redo.clear();
     Ok(())
 }
 
 impl Shape for Session {
-    ghost complex = { λ s. s.now };
+    ghost complex = { λ s. s.state.now };
 
     fn vert_from(&self, least: u32) -> Option<VertName> {
         self.current.vert_from(least)

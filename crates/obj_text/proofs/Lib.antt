@@ -1,4 +1,3 @@
-pub mod ToldLemmas
 pub mod NumberLemmas
 pub mod WritingLemmas
 pub mod MarkLemmas

@@ -6,9 +6,9 @@ use Rattle.std.proofs.lemmas.List.{take_more, get_or-map, length-map, get_or-set
 use Rattle.std.proofs.lemmas.List.Folds.{list_any-append}
 use Rattle.std.proofs.lemmas.Bool.{eq-eqb}
 use Rattle.std.proofs.lemmas.Bool.Decides.{eqb_tells}
-use Rattle.mesh_model.specs.Deleting.{is_among}
-use Rattle.mesh_model.specs.Valid.{are_distinct}
-use Rattle.mesh_model.specs.declared.names.VertName.{VertName}
+use Rattle.plain_model.specs.Deleting.{is_among}
+use Rattle.plain_model.specs.Valid.{are_distinct}
+use Rattle.plain_model.specs.declared.names.VertName.{VertName}
 use Rattle.obj_text.specs.Obj.{vert_at}
 
 -- just the vertices of a list have a mark

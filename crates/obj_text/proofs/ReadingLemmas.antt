@@ -8,20 +8,20 @@ use Rattle.std.proofs.lemmas.List.Elements.{All-cons}
 use Rattle.std.proofs.lemmas.Bool.{and_parts, leb-true, ltb-true}
 use Rattle.std.proofs.lemmas.Bool.Decides.{nat_tests}
 use borrow.Author.Count.{below_more}
-use Rattle.mesh_model.specs.Table.{at, IsThere, passes}
-use Rattle.mesh_model.specs.Complex.{Complex, no_complex, corner_sum}
-use Rattle.mesh_model.specs.Making.{with_ring}
-use Rattle.mesh_model.specs.Valid.{are_distinct, is_on_grid, IsValid, IsSimple}
-use Rattle.mesh_model.proofs.Drafts.{few-with_ring, verts_there}
-use Rattle.mesh_model.proofs.Valids.{IsSimple-with_vert, IsSimple-with_ring, IsValid-with_vert, IsValid-with_ring}
-use Rattle.mesh_model.specs.declared.names.VertName.{VertName}
-use Rattle.mesh_model.specs.declared.records.VertRec.{VertRec}
-use Rattle.mesh_model.specs.declared.draft.DraftCorner.{DraftCorner}
+use Rattle.plain_model.specs.Table.{at, IsThere, passes}
+use Rattle.plain_model.specs.Complex.{Complex, no_complex, corner_sum}
+use Rattle.plain_model.specs.Making.{with_ring}
+use Rattle.plain_model.specs.Valid.{are_distinct, is_on_grid, IsValid, IsSimple}
+use Rattle.plain_model.proofs.Drafts.{few-with_ring, verts_there}
+use Rattle.plain_model.proofs.Valids.{IsSimple-with_vert, IsSimple-with_ring, IsValid-with_vert, IsValid-with_ring}
+use Rattle.plain_model.specs.declared.names.VertName.{VertName}
+use Rattle.plain_model.specs.declared.records.VertRec.{VertRec}
+use Rattle.plain_model.specs.declared.draft.DraftCorner.{DraftCorner}
 use Rattle.text_words.specs.Text.{words}
-use Rattle.obj_text.specs.Obj.{vert_at, is_read, is_ring, has_room, fits, with_item, with_spelled, spelled, complex_of, is_known, first_unknown, judged, read_lines}
+use Rattle.obj_text.specs.Obj.{vert_at, is_read, is_ring, has_room, fits, with_item, with_any, item_of, complex_of, is_known, first_unknown, lines_verdict, read_lines}
 use Rattle.obj_text.specs.Reading.{corner_at}
-use Rattle.obj_text.specs.declared.item.Item.{Item}
-use Rattle.obj_text.specs.declared.item.Item.TheVariants.{Nothing, Vertex, Ring}
+use Rattle.obj_text.specs.declared.reading.item.Item.{Item}
+use Rattle.obj_text.specs.declared.reading.item.Item.TheVariants.{Nothing, Vertex, Ring}
 use Rattle.obj_text.specs.declared.obj_fault.ObjWhy.TheVariants.{NotYet}
 
 -- SIMPLE
@@ -31,17 +31,17 @@ simple-with_item c Nothing h = h
 simple-with_item c (Vertex p) h = IsSimple-with_vert c (record { point = p }) h
 simple-with_item c (Ring indices) h = IsSimple-with_ring c (map vert_at indices) h
 
-simple-with_spelled : (c : Complex) (o : Option Item) → IsSimple c → IsSimple (with_spelled c o)
-simple-with_spelled c None h = h
-simple-with_spelled c (Some item) h = simple-with_item c item h
+simple-with_any : (c : Complex) (o : Option Item) → IsSimple c → IsSimple (with_any c o)
+simple-with_any c None h = h
+simple-with_any c (Some item) h = simple-with_item c item h
 
 -- a line more
 abbrev pub with_line : ℕ → Complex → List ℕ → Complex
-with_line scale c line = with_spelled c (spelled scale (words line))
+with_line scale c line = with_any c (item_of scale (words line))
 
-simple-fold : (scale : ℕ) (c : Complex) (lines : List (List ℕ)) → IsSimple c → IsSimple (fold (λ c line. with_spelled c (spelled scale (words line))) c lines)
+simple-fold : (scale : ℕ) (c : Complex) (lines : List (List ℕ)) → IsSimple c → IsSimple (fold (λ c line. with_any c (item_of scale (words line))) c lines)
 simple-fold scale c [] h = h
-simple-fold scale c (line ∷ lines) h = simple-fold scale (with_line scale c line) lines (simple-with_spelled c (spelled scale (words line)) h)
+simple-fold scale c (line ∷ lines) h = simple-fold scale (with_line scale c line) lines (simple-with_any c (item_of scale (words line)) h)
 
 -- what lines make is simple
 pub simple-complex_of : (scale : ℕ) (lines : List (List ℕ)) → IsSimple (complex_of scale lines)
@@ -60,17 +60,17 @@ pub known_more : (scale : ℕ) (lines : List (List ℕ)) (n : ℕ) → AreKnown 
 known_more scale lines n h here = record { each = λ k less. below_more (λ k. is_known scale (take k lines) (get_or lines k []) ≡ true) n h.each here k less }
 
 -- the complex of one line more
-pub complex_of-more : (scale : ℕ) (lines : List (List ℕ)) (n : ℕ) → n < length lines → complex_of scale (take (n + 1) lines) ≡ with_spelled (complex_of scale (take n lines)) (spelled scale (words (get_or lines n [])))
-complex_of-more scale lines n here = ap (complex_of scale) (take_more lines n [] here) ∙ fold-append (λ c line. with_spelled c (spelled scale (words line))) no_complex (take n lines) (get_or lines n [] ∷ [])
+pub complex_of-more : (scale : ℕ) (lines : List (List ℕ)) (n : ℕ) → n < length lines → complex_of scale (take (n + 1) lines) ≡ with_any (complex_of scale (take n lines)) (item_of scale (words (get_or lines n [])))
+complex_of-more scale lines n here = ap (complex_of scale) (take_more lines n [] here) ∙ fold-append (λ c line. with_any c (item_of scale (words line))) no_complex (take n lines) (get_or lines n [] ∷ [])
 
 -- what is told of the line at a place
-pub line_known : (scale : ℕ) (lines : List (List ℕ)) (n : ℕ) (line : List ℕ) (draft : Complex) (known : Bool) → get_or lines n [] ≡ line → draft ≡ complex_of scale (take n lines) → known ≡ passes (fits draft) (spelled scale (words line)) → is_known scale (take n lines) (get_or lines n []) ≡ known
+pub line_known : (scale : ℕ) (lines : List (List ℕ)) (n : ℕ) (line : List ℕ) (draft : Complex) (known : Bool) → get_or lines n [] ≡ line → draft ≡ complex_of scale (take n lines) → known ≡ passes (fits draft) (item_of scale (words line)) → is_known scale (take n lines) (get_or lines n []) ≡ known
 line_known scale lines n line draft known at is told =
-    ap (λ (l : List ℕ). passes (fits (complex_of scale (take n lines))) (spelled scale (words l))) at ∙ ap (λ (d : Complex). passes (fits d) (spelled scale (words line))) (sym is) ∙ sym told
+    ap (λ (l : List ℕ). passes (fits (complex_of scale (take n lines))) (item_of scale (words l))) at ∙ ap (λ (d : Complex). passes (fits d) (item_of scale (words line))) (sym is) ∙ sym told
 
-pub draft_more : (scale : ℕ) (lines : List (List ℕ)) (n : ℕ) (line : List ℕ) (draft new : Complex) → n < length lines → get_or lines n [] ≡ line → draft ≡ complex_of scale (take n lines) → new ≡ with_spelled draft (spelled scale (words line)) → new ≡ complex_of scale (take (n + 1) lines)
+pub draft_more : (scale : ℕ) (lines : List (List ℕ)) (n : ℕ) (line : List ℕ) (draft new : Complex) → n < length lines → get_or lines n [] ≡ line → draft ≡ complex_of scale (take n lines) → new ≡ with_any draft (item_of scale (words line)) → new ≡ complex_of scale (take (n + 1) lines)
 draft_more scale lines n line draft new here at is told =
-    told ∙ ap (λ (d : Complex). with_spelled d (spelled scale (words line))) is ∙ ap (λ (l : List ℕ). with_spelled (complex_of scale (take n lines)) (spelled scale (words l))) (sym at) ∙ sym (complex_of-more scale lines n here)
+    told ∙ ap (λ (d : Complex). with_any d (item_of scale (words line))) is ∙ ap (λ (l : List ℕ). with_any (complex_of scale (take n lines)) (item_of scale (words l))) (sym at) ∙ sym (complex_of-more scale lines n here)
 
 -- whether the line at a place isn't of the form
 abbrev unknown_at : ℕ → List (List ℕ) → ℕ × List ℕ → Bool
@@ -99,7 +99,7 @@ read_lines-all scale lines n long h =
     let first : position_or_len (unknown_at scale lines) (enumerate_from 0 lines) ≡ n = first_at scale lines n (omega arith) h (λ less. absurd (omega arith)) in
     let none : first_unknown scale lines ≡ None =
     ap (λ (k : ℕ). cond (ltb k (length (enumerate_from 0 lines))) (Some k) None) first ∙ not_chosen n (length (enumerate_from 0 lines)) (omega (arith, length-enumerate_from 0 lines)) in
-    ap (judged scale lines) none
+    ap (lines_verdict scale lines) none
 
 -- a line isn't
 pub read_lines-refused : (scale : ℕ) (lines : List (List ℕ)) (n : ℕ) → n < length lines → AreKnown scale lines n → is_known scale (take n lines) (get_or lines n []) ≡ false → read_lines scale lines ≡ Err (record { line = n + 1; why = NotYet })
@@ -107,7 +107,7 @@ read_lines-refused scale lines n here h unknown =
     let first : position_or_len (unknown_at scale lines) (enumerate_from 0 lines) ≡ n = first_at scale lines n (omega arith) h (λ less. unknown) in
     let some : first_unknown scale lines ≡ Some n =
     ap (λ (k : ℕ). cond (ltb k (length (enumerate_from 0 lines))) (Some k) None) first ∙ chosen n (length (enumerate_from 0 lines)) (omega (arith, length-enumerate_from 0 lines)) in
-    ap (judged scale lines) some
+    ap (lines_verdict scale lines) some
 
 -- FACES
 
@@ -173,13 +173,13 @@ valid-with_item c (Vertex p) fit h =
     IsValid-with_vert c (record { point = p }) (ltb-true (length c.verts) 1048576 both_hold.1) both_hold.0 h
 valid-with_item c (Ring indices) fit h = valid-with_ring c indices (stands_on c indices fit) h
 
-valid-with_spelled : (c : Complex) (o : Option Item) → passes (fits c) o ≡ true → IsValid c → IsValid (with_spelled c o)
-valid-with_spelled c None fit h = absurd (cc)
-valid-with_spelled c (Some item) fit h = valid-with_item c item fit h
+valid-with_any : (c : Complex) (o : Option Item) → passes (fits c) o ≡ true → IsValid c → IsValid (with_any c o)
+valid-with_any c None fit h = absurd (cc)
+valid-with_any c (Some item) fit h = valid-with_item c item fit h
 
 -- a line of the form keeps a draft valid
 pub valid_next : (scale : ℕ) (lines : List (List ℕ)) (n : ℕ) (draft new : Complex) → n < length lines → draft ≡ complex_of scale (take n lines) → is_known scale (take n lines) (get_or lines n []) ≡ true → new ≡ complex_of scale (take (n + 1) lines) → IsValid draft → IsValid new
 valid_next scale lines n draft new here is known next h =
     let P : Complex → Type 0 = IsValid in
     let before : IsValid (complex_of scale (take n lines)) = subst P is h in
-    subst P (sym (next ∙ complex_of-more scale lines n here)) (valid-with_spelled (complex_of scale (take n lines)) (spelled scale (words (get_or lines n []))) known before)
+    subst P (sym (next ∙ complex_of-more scale lines n here)) (valid-with_any (complex_of scale (take n lines)) (item_of scale (words (get_or lines n []))) known before)

@@ -8,17 +8,17 @@ use Rattle.std.proofs.lemmas.List.Sums.{count_by_more_yes, count_by_more_no}
 use Rattle.std.proofs.lemmas.Grind.{flat_map-append}
 use Rattle.std.proofs.lemmas.Option.{slice_get_within, get_or_from_slice_get}
 use borrow.Author.Count.{below_more}
-use Rattle.mesh_model.specs.Table.{at, IsThere, live}
-use Rattle.mesh_model.specs.Complex.{Complex, corners_of}
-use Rattle.mesh_model.specs.Valid.{IsLinked}
-use Rattle.mesh_model.proofs.Tables.{there-below, take_more_get}
-use Rattle.mesh_model.specs.declared.records.VertRec.{VertRec}
-use Rattle.mesh_model.specs.declared.records.EdgeRec.{EdgeRec}
-use Rattle.mesh_model.specs.declared.records.CornerRec.{CornerRec}
-use Rattle.mesh_model.specs.declared.records.FaceRec.{FaceRec}
-use Rattle.mesh_model.specs.Incidence.{is_loose}
-use Rattle.mesh_model.specs.declared.names.VertName.{VertName}
-use Rattle.obj_text.specs.Written.{index, wire_line, wire_entry}
+use Rattle.plain_model.specs.Table.{at, IsThere, live}
+use Rattle.plain_model.specs.Complex.{Complex, corners_of}
+use Rattle.plain_model.specs.Valid.{IsLinked}
+use Rattle.plain_model.proofs.Tables.{there-below, take_more_get}
+use Rattle.plain_model.specs.declared.records.VertRec.{VertRec}
+use Rattle.plain_model.specs.declared.records.EdgeRec.{EdgeRec}
+use Rattle.plain_model.specs.declared.records.CornerRec.{CornerRec}
+use Rattle.plain_model.specs.declared.records.FaceRec.{FaceRec}
+use Rattle.plain_model.specs.Incidence.{is_loose}
+use Rattle.plain_model.specs.declared.names.VertName.{VertName}
+use Rattle.obj_text.specs.Written.{index, loose_line, loose_entry}
 use Rattle.obj_text.specs.Ranks.{AreIndices, AreIndicesTo}
 
 -- INDICES
@@ -65,16 +65,16 @@ ends_told_below c e ends d linked there told =
     (rw it.2 below.0, rw it.3 below.1)
 
 -- the line of a loose edge
-pub wire_told : (c : Complex) (table : List ℕ) (e : ℕ) (ends : List VertName) (d : VertName) (line : List ℕ) → IsLinked c → AreIndices c table → is_some (at c.edges e) ≡ true → IfSome (at c.edges e) (λ r. (slice_get ends 0 ≡ Some r.a) × (slice_get ends 1 ≡ Some r.b))
-    → is_loose c e ≡ true → line ≡ wire_line (get_or table (get_or ends 0 d).0 0) (get_or table (get_or ends 1 d).0 0) → line ≡ wire_entry c (e, at c.edges e)
-wire_told c table e ends d line linked are there told loose written =
+pub loose_told : (c : Complex) (table : List ℕ) (e : ℕ) (ends : List VertName) (d : VertName) (line : List ℕ) → IsLinked c → AreIndices c table → is_some (at c.edges e) ≡ true → IfSome (at c.edges e) (λ r. (slice_get ends 0 ≡ Some r.a) × (slice_get ends 1 ≡ Some r.b))
+    → is_loose c e ≡ true → line ≡ loose_line (get_or table (get_or ends 0 d).0 0) (get_or table (get_or ends 1 d).0 0) → line ≡ loose_entry c (e, at c.edges e)
+loose_told c table e ends d line linked are there told loose written =
     let it = ends_of (at c.edges e) ends d there told in
     let r : EdgeRec = it.0 in
     let below = ends_below c e r linked it.1 in
     let a : get_or table (get_or ends 0 d).0 0 ≡ index c r.a.0 = ap (λ (v : VertName). get_or table v.0 0) it.2 ∙ are.each r.a.0 below.0 in
     let b : get_or table (get_or ends 1 d).0 0 ≡ index c r.b.0 = ap (λ (v : VertName). get_or table v.0 0) it.3 ∙ are.each r.b.0 below.1 in
-    written ∙ ap (λ (i : ℕ). wire_line i (get_or table (get_or ends 1 d).0 0)) a ∙ ap (wire_line (index c r.a.0)) b
-    ∙ ap (λ (t : Bool). cond t (wire_line (index c r.a.0) (index c r.b.0)) []) (sym loose) ∙ ap (λ (o : Option EdgeRec). wire_entry c (e, o)) (sym it.1)
+    written ∙ ap (λ (i : ℕ). loose_line i (get_or table (get_or ends 1 d).0 0)) a ∙ ap (loose_line (index c r.a.0)) b
+    ∙ ap (λ (t : Bool). cond t (loose_line (index c r.a.0) (index c r.b.0)) []) (sym loose) ∙ ap (λ (o : Option EdgeRec). loose_entry c (e, o)) (sym it.1)
 
 corner_of_face : (c : Complex) (f i : ℕ) (o : Option FaceRec) (k : CornerRec) → IsLinked c → at c.faces f ≡ o → slice_get (corners_of o) i ≡ Some k → k.vert.0 < length c.verts
 corner_of_face c f i None k linked there get = absurd (omega (arith, slice_get_within [] i k get))

@@ -1,8 +1,7 @@
-pub mod Told
-pub mod Causes
 pub mod Written
 pub mod Ranks
-pub mod WhyText
+pub mod Words
+pub mod Faults
 pub mod Obj
 pub mod Reading
 pub mod Rows

@@ -6,14 +6,14 @@ use Rattle.std.specs.declared.option.Option.{Option}
 use Rattle.std.specs.declared.option.Option.TheVariants.{None, Some}
 use Rattle.text_words.specs.Text.{lines, words, natural, integer, is_text}
 use Rattle.text_words.specs.Each.{each}
-use Rattle.mesh_model.specs.Table.{at, passes}
-use Rattle.mesh_model.specs.Complex.{Complex, no_complex, corner_sum}
-use Rattle.mesh_model.specs.Making.{with_vert, with_ring}
-use Rattle.mesh_model.specs.Valid.{is_on_grid, are_distinct}
-use Rattle.mesh_model.specs.declared.names.VertName.{VertName}
-use Rattle.mesh_model.specs.declared.records.VertRec.{VertRec}
-use Rattle.obj_text.specs.declared.item.Item.{Item}
-use Rattle.obj_text.specs.declared.item.Item.TheVariants.{Nothing, Vertex, Ring}
+use Rattle.plain_model.specs.Table.{at, passes}
+use Rattle.plain_model.specs.Complex.{Complex, no_complex, corner_sum}
+use Rattle.plain_model.specs.Making.{with_vert, with_ring}
+use Rattle.plain_model.specs.Valid.{is_on_grid, are_distinct}
+use Rattle.plain_model.specs.declared.names.VertName.{VertName}
+use Rattle.plain_model.specs.declared.records.VertRec.{VertRec}
+use Rattle.obj_text.specs.declared.reading.item.Item.{Item}
+use Rattle.obj_text.specs.declared.reading.item.Item.TheVariants.{Nothing, Vertex, Ring}
 use Rattle.obj_text.specs.declared.obj_fault.ObjRefusal.{ObjRefusal}
 use Rattle.obj_text.specs.declared.obj_fault.ObjWhy.TheVariants.{NotYet}
 
@@ -27,18 +27,18 @@ vertex (Some x) (Some y) (Some z) = Some (Vertex (record { x = x; y = y; z = z }
 vertex _ _ _ = None
 
 -- three coordinates spell a vertex
-abbrev pub spelled_vertex : ℕ → List (List ℕ) → Option Item
-spelled_vertex scale (x ∷ y ∷ z ∷ []) = vertex (coordinate scale x) (coordinate scale y) (coordinate scale z)
-spelled_vertex scale _ = None
+abbrev pub vertex_item : ℕ → List (List ℕ) → Option Item
+vertex_item scale (x ∷ y ∷ z ∷ []) = vertex (coordinate scale x) (coordinate scale y) (coordinate scale z)
+vertex_item scale _ = None
 
 -- numbers of at most 7 digits spell a ring
-abbrev pub spelled_ring : List (List ℕ) → Option Item
-spelled_ring words = option_map Ring (each (natural 7) words)
+abbrev pub ring_item : List (List ℕ) → Option Item
+ring_item words = option_map Ring (each (natural 7) words)
 
 -- what the words of a line spell, whatever stands before it: nothing, `v` a vertex, `f` a ring
-abbrev pub spelled : ℕ → List (List ℕ) → Option Item
-spelled scale [] = Some Nothing
-spelled scale (word ∷ words) = if is_text (codes "v") word then spelled_vertex scale words else (if is_text (codes "f") word then spelled_ring words else None)
+abbrev pub item_of : ℕ → List (List ℕ) → Option Item
+item_of scale [] = Some Nothing
+item_of scale (word ∷ words) = if is_text (codes "v") word then vertex_item scale words else (if is_text (codes "f") word then ring_item words else None)
 
 -- the vertex of an index, which counts from 1
 abbrev pub vert_at : ℕ → VertName
@@ -69,30 +69,30 @@ with_item c (Vertex p) = with_vert c (record { point = p })
 with_item c (Ring indices) = with_ring c (map vert_at indices)
 
 -- the complex with what a line spells, if it spells anything
-abbrev pub with_spelled : Complex → Option Item → Complex
-with_spelled c None = c
-with_spelled c (Some item) = with_item c item
+abbrev pub with_any : Complex → Option Item → Complex
+with_any c None = c
+with_any c (Some item) = with_item c item
 
 -- the complex of some lines, line after line
 abbrev pub complex_of : ℕ → List (List ℕ) → Complex
-complex_of scale lines = fold (λ c line. with_spelled c (spelled scale (words line))) no_complex lines
+complex_of scale lines = fold (λ c line. with_any c (item_of scale (words line))) no_complex lines
 
 -- a line that stands after others is of the form: it spells an item, which may be added to what they make
 abbrev pub is_known : ℕ → List (List ℕ) → List ℕ → Bool
-is_known scale before line = passes (fits (complex_of scale before)) (spelled scale (words line))
+is_known scale before line = passes (fits (complex_of scale before)) (item_of scale (words line))
 
 -- the first line that isn't of the form, counted from 0
 abbrev pub first_unknown : ℕ → List (List ℕ) → Option ℕ
 first_unknown scale lines = position (λ e. not (is_known scale (take e.0 lines) e.1)) (enumerate_from 0 lines)
 
 -- lines are refused at the first that isn't of the form, counted from 1, and otherwise are their complex
-abbrev pub judged : ℕ → List (List ℕ) → Option ℕ → Result Complex ObjRefusal
-judged scale lines None = Ok (complex_of scale lines)
-judged scale lines (Some n) = Err (record { line = n + 1; why = NotYet })
+abbrev pub lines_verdict : ℕ → List (List ℕ) → Option ℕ → Result Complex ObjRefusal
+lines_verdict scale lines None = Ok (complex_of scale lines)
+lines_verdict scale lines (Some n) = Err (record { line = n + 1; why = NotYet })
 
 -- what some lines read as
 abbrev pub read_lines : ℕ → List (List ℕ) → Result Complex ObjRefusal
-read_lines scale lines = judged scale lines (first_unknown scale lines)
+read_lines scale lines = lines_verdict scale lines (first_unknown scale lines)
 
 -- what a text reads as; one of more than 65,536 bytes is refused as a whole
 abbrev pub read_text : ℕ → List ℕ → Result Complex ObjRefusal

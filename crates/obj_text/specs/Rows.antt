@@ -1,9 +1,9 @@
 -- Small texts, read and written by hand.
 use Rattle.std.specs.Prelude.{◌≡◌, ℕ, pos, neg_ℤ, List, [], ◌∷◌, ◌++◌, codes, Result, Ok, Err}
 use Rattle.std.specs.declared.option.Option.TheVariants.{Some}
-use Rattle.mesh_model.specs.Complex.{Complex, counters_of}
-use Rattle.mesh_model.specs.Deleting.{without_verts}
-use Rattle.mesh_model.specs.Rows.{vert, square, point}
+use Rattle.plain_model.specs.Complex.{Complex, counters_of}
+use Rattle.plain_model.specs.Deleting.{without_verts}
+use Rattle.plain_model.specs.Rows.{vert, square, point}
 use Rattle.obj_text.specs.Obj.{read_text}
 use Rattle.obj_text.specs.Written.{grid_number, text}
 use Rattle.obj_text.specs.declared.obj_fault.ObjRefusal.{ObjRefusal}

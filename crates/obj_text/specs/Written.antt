@@ -4,22 +4,22 @@ use Rattle.std.specs.Fmt.{decimal}
 use Rattle.std.specs.List.{flat_map, enumerate_from, repeat}
 use Rattle.std.specs.declared.option.Option.{Option}
 use Rattle.std.specs.declared.option.Option.TheVariants.{None, Some}
-use Rattle.mesh_model.specs.Table.{live}
-use Rattle.mesh_model.specs.Complex.{Complex}
-use Rattle.mesh_model.specs.Incidence.{is_loose}
-use Rattle.mesh_model.specs.declared.records.Point.{Point}
-use Rattle.mesh_model.specs.declared.records.VertRec.{VertRec}
-use Rattle.mesh_model.specs.declared.records.EdgeRec.{EdgeRec}
-use Rattle.mesh_model.specs.declared.records.CornerRec.{CornerRec}
-use Rattle.mesh_model.specs.declared.records.FaceRec.{FaceRec}
+use Rattle.plain_model.specs.Table.{live}
+use Rattle.plain_model.specs.Complex.{Complex}
+use Rattle.plain_model.specs.Incidence.{is_loose}
+use Rattle.plain_model.specs.declared.records.Point.{Point}
+use Rattle.plain_model.specs.declared.records.VertRec.{VertRec}
+use Rattle.plain_model.specs.declared.records.EdgeRec.{EdgeRec}
+use Rattle.plain_model.specs.declared.records.CornerRec.{CornerRec}
+use Rattle.plain_model.specs.declared.records.FaceRec.{FaceRec}
 
 -- a number in at least so many digits, with zeros in front
-abbrev pub padded : ℕ → ℕ → List ℕ
-padded width n = repeat (width - length (decimal n)) (codes "0") ++ decimal n
+abbrev pub wide_decimal : ℕ → ℕ → List ℕ
+wide_decimal width n = repeat (width - length (decimal n)) (codes "0") ++ decimal n
 
 -- a number of units without sign: the whole part, and at a scale above 0 a point and the decimal places
 abbrev pub magnitude : ℕ → ℕ → List ℕ
-magnitude scale n = if scale == 0 then decimal n else decimal (n / 10 ^ scale) ++ (codes "." ++ padded scale (n % 10 ^ scale))
+magnitude scale n = if scale == 0 then decimal n else decimal (n / 10 ^ scale) ++ (codes "." ++ wide_decimal scale (n % 10 ^ scale))
 
 -- a number of units at a scale, with a minus where it is below 0
 abbrev pub grid_number : ℕ → ℤ → List ℕ
@@ -43,17 +43,17 @@ abbrev pub vert_lines : ℕ → Complex → List ℕ
 vert_lines scale c = flat_map (vert_entry scale) c.verts
 
 -- a line `l A B` for two indices
-abbrev pub wire_line : ℕ → ℕ → List ℕ
-wire_line a b = codes "l " ++ (decimal a ++ (codes " " ++ (decimal b ++ codes "\n")))
+abbrev pub loose_line : ℕ → ℕ → List ℕ
+loose_line a b = codes "l " ++ (decimal a ++ (codes " " ++ (decimal b ++ codes "\n")))
 
 -- the line of what stands at an edge's name, if no face has it
-abbrev pub wire_entry : Complex → ℕ × Option EdgeRec → List ℕ
-wire_entry c (n, None) = []
-wire_entry c (n, Some e) = if is_loose c n then wire_line (index c e.a.0) (index c e.b.0) else []
+abbrev pub loose_entry : Complex → ℕ × Option EdgeRec → List ℕ
+loose_entry c (n, None) = []
+loose_entry c (n, Some e) = if is_loose c n then loose_line (index c e.a.0) (index c e.b.0) else []
 
 -- the lines of the loose edges by rising name
-abbrev pub wire_lines : Complex → List ℕ
-wire_lines c = flat_map (wire_entry c) (enumerate_from 0 c.edges)
+abbrev pub loose_lines : Complex → List ℕ
+loose_lines c = flat_map (loose_entry c) (enumerate_from 0 c.edges)
 
 -- a corner as a word, after a space
 abbrev pub corner_word : Complex → CornerRec → List ℕ
@@ -78,4 +78,4 @@ face_lines c = flat_map (face_entry c) c.faces
 
 -- the text: its vertices, its loose edges, its faces
 abbrev pub text : ℕ → Complex → List ℕ
-text scale c = vert_lines scale c ++ (wire_lines c ++ face_lines c)
+text scale c = vert_lines scale c ++ (loose_lines c ++ face_lines c)

@@ -1,6 +1,9 @@
 //! Why a text is no model.
 
-use mesh_model::NoMemory as OutOfMemory;
+ghost use Rattle.std.specs.Prelude.{◌≡◌};
+ghost use Rattle.obj_text.specs.Words.{why_code};
+
+use plain_model::NoMemory as OutOfMemory;
 use std::alloc::AllocFailed;
 use std::fmt;
 use thiserror::Error;
@@ -8,18 +11,63 @@ use thiserror::Error;
 /// The reason of a refusal.
 #[derive(Clone, Copy, Debug, PartialEq, Eq)]
 pub enum ObjWhy {
-    /// The text is too long, or a line isn't of a form that is read so far.
+    /// A number is malformed, or there are too few or too many.
+    BadNumber = 1,
+    /// A number has more decimal places than the grid.
+    OffGrid = 2,
+    /// A point or a texture coordinate leaves the grid.
+    OutOfGrid = 3,
+    /// An index is malformed, or no item of that kind has it so far.
+    BadIndex = 4,
+    /// Too few corners.
+    TooShort = 5,
+    /// More corners than a face may have.
+    TooLong = 6,
+    /// A vertex stands twice.
+    Repeated = 7,
+    /// The first word of a line isn't known.
+    UnknownWord = 8,
+    /// A line of free-form geometry.
+    FreeForm = 9,
+    /// A limit on names or live corners would be passed.
+    TooMany = 10,
+    /// The text is too long.
+    TooLarge = 11,
+    /// A byte that isn't text.
+    NotText = 12,
+    /// The text is longer than is read so far, or a line isn't of a form that is read so far.
     NotYet = 13,
+}
+
+impl ObjWhy {
+    /// The number of the reason, from 1 to 13.
+    pub fn code(self) -> u8
+        ensures { result ≡ why_code self }
+    {
+        self as u8
+    }
 }
 
 impl fmt::Display for ObjWhy {
     ghost use Rattle.std.specs.Prelude.{Some};
-    ghost use Rattle.obj_text.specs.WhyText.{why_text};
+    ghost use Rattle.obj_text.specs.Words.{why_text};
 
     ghost output = { λ why. Some (why_text why) };
 
     fn fmt<W: fmt::Write>(&self, f: &mut fmt::Formatter<W>) -> fmt::Result {
         match self {
+            ObjWhy::BadNumber => write!(f, "BadNumber"),
+            ObjWhy::OffGrid => write!(f, "OffGrid"),
+            ObjWhy::OutOfGrid => write!(f, "OutOfGrid"),
+            ObjWhy::BadIndex => write!(f, "BadIndex"),
+            ObjWhy::TooShort => write!(f, "TooShort"),
+            ObjWhy::TooLong => write!(f, "TooLong"),
+            ObjWhy::Repeated => write!(f, "Repeated"),
+            ObjWhy::UnknownWord => write!(f, "UnknownWord"),
+            ObjWhy::FreeForm => write!(f, "FreeForm"),
+            ObjWhy::TooMany => write!(f, "TooMany"),
+            ObjWhy::TooLarge => write!(f, "TooLarge"),
+            ObjWhy::NotText => write!(f, "NotText"),
             ObjWhy::NotYet => write!(f, "NotYet"),
         }
     }

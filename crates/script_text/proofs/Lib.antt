@@ -1,2 +1,3 @@
 pub mod ScriptLemmas
 pub mod TermLemmas
+pub mod SpellingLemmas

@@ -5,10 +5,10 @@ use Rattle.std.specs.Option.{option_map}
 use Rattle.std.proofs.lemmas.List.{drop_more}
 use Rattle.std.proofs.lemmas.Bool.{eqb-true}
 use Rattle.std.proofs.lemmas.Iterator.Adapters.{position_from-zero}
-use Rattle.mesh_model.specs.declared.slots.Op.{Op}
-use Rattle.mesh_model.specs.declared.slots.What.TheVariants.{Run}
-use Rattle.mesh_model.specs.declared.slots.Command.{Command}
-use Rattle.script_text.specs.declared.commands.Script.{Script}
+use Rattle.plain_model.specs.declared.slots.Op.{Op}
+use Rattle.plain_model.specs.declared.slots.What.TheVariants.{Run}
+use Rattle.plain_model.specs.declared.slots.Command.{Command}
+use Rattle.script_text.specs.declared.script.Script.{Script}
 use Rattle.script_text.specs.declared.fault.ScriptRefusal.{ScriptRefusal}
 use Rattle.script_text.specs.declared.fault.ScriptWhy.TheVariants.{NotYet}
 use Rattle.script_text.specs.Script.{is_unknown, command_of, command_at, unless_unknown}

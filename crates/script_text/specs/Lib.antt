@@ -1,4 +1,5 @@
-pub mod WhyText
+pub mod Words
 pub mod Script
-pub mod Parses
+pub mod Faults
+pub mod Spelling
 pub mod Rows

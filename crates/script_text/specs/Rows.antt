@@ -1,13 +1,13 @@
 -- What some small scripts are.
 use Rattle.std.specs.Prelude.{◌≡◌, ℕ, List, [], ◌∷◌, ◌++◌, codes, Result, Ok, Err}
-use Rattle.mesh_model.specs.declared.names.Elem.TheVariants.{Vert}
-use Rattle.mesh_model.specs.declared.slots.Term.{Term}
-use Rattle.mesh_model.specs.declared.slots.Term.TheVariants.{One}
-use Rattle.mesh_model.specs.declared.slots.Context.TheVariants.{Verts}
-use Rattle.mesh_model.specs.declared.slots.Op.TheVariants.{Delete}
-use Rattle.mesh_model.specs.declared.slots.What.TheVariants.{Run}
-use Rattle.mesh_model.specs.declared.slots.Command.{Command}
-use Rattle.script_text.specs.declared.commands.Script.{Script}
+use Rattle.plain_model.specs.declared.names.Elem.TheVariants.{Vert}
+use Rattle.plain_model.specs.declared.slots.Term.{Term}
+use Rattle.plain_model.specs.declared.slots.Term.TheVariants.{One}
+use Rattle.plain_model.specs.declared.slots.Context.TheVariants.{Verts}
+use Rattle.plain_model.specs.declared.slots.Op.TheVariants.{Delete}
+use Rattle.plain_model.specs.declared.slots.What.TheVariants.{Run}
+use Rattle.plain_model.specs.declared.slots.Command.{Command}
+use Rattle.script_text.specs.declared.script.Script.{Script}
 use Rattle.script_text.specs.declared.fault.ScriptRefusal.{ScriptRefusal}
 use Rattle.script_text.specs.declared.fault.ScriptWhy.TheVariants.{NotYet}
 use Rattle.script_text.specs.Script.{script_of}

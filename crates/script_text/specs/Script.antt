@@ -4,17 +4,17 @@ use Rattle.std.specs.List.{starts_with, filter_map, enumerate_from}
 use Rattle.std.specs.Option.{option_map}
 use Rattle.std.specs.declared.option.Option.{Option}
 use Rattle.std.specs.declared.option.Option.TheVariants.{None, Some}
-use Rattle.mesh_model.specs.declared.names.Elem.TheVariants.{Vert}
-use Rattle.mesh_model.specs.declared.slots.Term.{Term}
-use Rattle.mesh_model.specs.declared.slots.Term.TheVariants.{One}
-use Rattle.mesh_model.specs.declared.slots.Context.TheVariants.{Verts}
-use Rattle.mesh_model.specs.declared.slots.Op.{Op}
-use Rattle.mesh_model.specs.declared.slots.Op.TheVariants.{Delete}
-use Rattle.mesh_model.specs.declared.slots.What.TheVariants.{Run}
-use Rattle.mesh_model.specs.declared.slots.Command.{Command}
+use Rattle.plain_model.specs.declared.names.Elem.TheVariants.{Vert}
+use Rattle.plain_model.specs.declared.slots.Term.{Term}
+use Rattle.plain_model.specs.declared.slots.Term.TheVariants.{One}
+use Rattle.plain_model.specs.declared.slots.Context.TheVariants.{Verts}
+use Rattle.plain_model.specs.declared.slots.Op.{Op}
+use Rattle.plain_model.specs.declared.slots.Op.TheVariants.{Delete}
+use Rattle.plain_model.specs.declared.slots.What.TheVariants.{Run}
+use Rattle.plain_model.specs.declared.slots.Command.{Command}
 use Rattle.text_words.specs.Each.{each}
 use Rattle.text_words.specs.Text.{lines, parts_of, natural, is_text}
-use Rattle.script_text.specs.declared.commands.Script.{Script}
+use Rattle.script_text.specs.declared.script.Script.{Script}
 use Rattle.script_text.specs.declared.fault.ScriptRefusal.{ScriptRefusal}
 use Rattle.script_text.specs.declared.fault.ScriptWhy.TheVariants.{NotYet}
 
@@ -33,7 +33,7 @@ terms_of text = terms_of_words (parts_of 44 text)
 
 -- three words are `delete`, one that begins with `geom=`, and `context=verts`
 abbrev pub is_delete : List ℕ → List ℕ → List ℕ → Bool
-is_delete name geom context = is_text (codes "delete") name && (starts_with nat_eq geom (codes "geom=") && is_text (codes "context=verts") context)
+is_delete name geom context = is_text (codes "delete") name && starts_with nat_eq geom (codes "geom=") && is_text (codes "context=verts") context
 
 -- the command that deletes the vertices behind `geom=`, where the three words are of that form
 abbrev pub delete_of : List ℕ → List ℕ → List ℕ → Option Op

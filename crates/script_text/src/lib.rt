@@ -4,17 +4,14 @@
 //! TERMS being 1 to 4,096 words `vN` separated by commas, N of 1 to 9 digits.
 #![tactic(auto)]
 
-mod commands;
 mod fault;
 pub mod laws;
 mod line;
-mod reader;
+mod parsing;
+mod script;
 mod terms;
 
-pub use commands::Script;
 pub use fault::{ScriptFault, ScriptRefusal, ScriptWhy};
-pub use reader::{LONGEST_SCRIPT, parse};
+pub use parsing::{LONGEST_SCRIPT, parse};
+pub use script::Script;
 pub use terms::MOST_TERMS;
-
-#[cfg(test)]
-mod tests;

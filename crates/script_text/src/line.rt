@@ -3,8 +3,8 @@ ghost use Rattle.std.specs.Prelude.{◌≡◌, map, codes, IfOk};
 ghost use Rattle.script_text.specs.Script.{is_delete, delete_of, op_of, command_of};
 
 use crate::terms::terms_of;
-use mesh_model::NoMemory;
-use mesh_model::slots::{Context, Op};
+use plain_model::NoMemory;
+use plain_model::slots::{Context, Op};
 use std::alloc::Global;
 use text_words::{is_text, parts};
 
@@ -13,18 +13,14 @@ pub(crate) fn command_of(alloc: Global, line: &[u8]) -> Result<Option<Op>, NoMem
     ensures { IfOk result (λ op. op ≡ command_of line.now) }
 {
     let words = parts(alloc, line, b' ')?;
-    let op = op_of(alloc, &words)?;
-    Ok(op)
+    op_of(alloc, &words)
 }
 
 fn op_of(alloc: Global, words: &[&[u8]]) -> Result<Option<Op>, NoMemory>
     ensures { IfOk result (λ op. op ≡ op_of (map (λ w. w.now) words.now)) }
 {
     match words {
-        [name, geom, context] => {
-            let op = delete_of(alloc, name, geom, context)?;
-            Ok(op)
-        }
+        [name, geom, context] => delete_of(alloc, name, geom, context),
         _ => Ok(None),
     }
 }
@@ -52,5 +48,5 @@ fn delete_of(
 fn is_delete(name: &[u8], geom: &[u8], context: &[u8]) -> bool
     ensures { result ≡ is_delete name.now geom.now context.now }
 {
-    is_text(b"delete", name) && (geom.starts_with(b"geom=") && is_text(b"context=verts", context))
+    is_text(b"delete", name) && geom.starts_with(b"geom=") && is_text(b"context=verts", context)
 }

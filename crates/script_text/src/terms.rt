@@ -1,10 +1,10 @@
 //! Terms: the elements that an argument names.
-ghost use Rattle.std.specs.Prelude.{◌≡◌, map, IfOk};
+ghost use Rattle.std.specs.Prelude.{◌≡◌, ◌<◌, ◌^◌, map, IfOk};
 ghost use Rattle.text_words.specs.Each.{each};
 ghost use Rattle.script_text.specs.Script.{vert_term, terms_of_words, terms_of};
 
-use mesh_model::slots::{Expr, Term};
-use mesh_model::{Elem, NoMemory, VertName};
+use plain_model::slots::{Expr, Term};
+use plain_model::{Elem, NoMemory, VertName};
 use std::alloc::Global;
 use text_words::{natural, parts};
 
@@ -16,8 +16,7 @@ pub(crate) fn terms_of(alloc: Global, text: &[u8]) -> Result<Option<Expr>, NoMem
     ensures { IfOk result (λ terms. terms ≡ terms_of text.now) }
 {
     let words = parts(alloc, text, b',')?;
-    let terms = terms_of_words(alloc, &words)?;
-    Ok(terms)
+    terms_of_words(alloc, &words)
 }
 
 fn terms_of_words(alloc: Global, words: &[&[u8]]) -> Result<Option<Expr>, NoMemory>
@@ -26,8 +25,7 @@ fn terms_of_words(alloc: Global, words: &[&[u8]]) -> Result<Option<Expr>, NoMemo
     if words.len() > MOST_TERMS {
         return Ok(None);
     }
-    let terms = each_term(alloc, words)?;
-    Ok(terms)
+    each_term(alloc, words)
 }
 
 fn each_term(alloc: Global, words: &[&[u8]]) -> Result<Option<Expr>, NoMemory>
@@ -47,10 +45,14 @@ fn vert_term(word: &[u8]) -> Option<Term>
     ensures { result ≡ vert_term word.now }
 {
     match word {
-        [b'v', ds @ ..] => match natural(ds, 9) {
-            Some(n) => Some(Term::One(Elem::Vert(VertName(n as u32)))),
-            None => None,
-        },
+        [b'v', ds @ ..] => natural(ds, 9).map(vert_named),
         _ => None,
     }
+}
+
+fn vert_named(n: u64) -> Term
+    requires { n < 2 ^ 32 }
+    ensures { result ≡ Term.One (Elem.Vert (record { 0 = n })) }
+{
+    Term::One(Elem::Vert(VertName(n as u32)))
 }

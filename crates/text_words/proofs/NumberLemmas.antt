@@ -1,5 +1,5 @@
 -- Lemmas on numbers and their digits.
-use Rattle.std.proofs.Common.{◌≡◌, ◌≤◌, ◌<◌, ◌^◌, ◌+◌, ◌-◌, ◌*◌, ℕ, suc, ℤ, pos, negsuc, neg_ℤ, ◌<ℤ◌, true, List, [], ◌∷◌, ◌++◌, length, length-append, arith, rules, refl, ap, ◌∙◌, Some, None, Bool, false, cond, ◌&&◌, ◌==◌, nat_lt, nat_le, take, get_or}
+use Rattle.std.proofs.Common.{◌≡◌, ◌≤◌, ◌<◌, ◌^◌, ◌+◌, ◌-◌, ◌*◌, ℕ, suc, ℤ, pos, negsuc, neg_ℤ, ◌<ℤ◌, true, List, [], ◌∷◌, ◌++◌, length, length-append, min, arith, rules, refl, ap, ◌∙◌, Some, None, Bool, false, cond, ◌&&◌, ◌==◌, nat_lt, nat_le, take, get_or}
 use Rattle.std.proofs.Math.Nat.{pow-le-pow_right, mul_assoc}
 use Rattle.std.proofs.lemmas.Bool.{and_parts, lt-ltb, le-leb, eqb-true}
 use Rattle.std.proofs.lemmas.List.{take_more}
@@ -41,11 +41,22 @@ value_more ds i here = ap value (take_more ds i 0 here) ∙ value_push (take i d
 pub numerals : IsNumeralModel (λ ds. list_all is_digit ds ≡ true) value
 numerals = numerals_by_weight _ (search (rules, tests)) value (search (rules, tests))
 
-chosen : (some few digits : Bool) (n : ℕ) → some ≡ true → few ≡ true → digits ≡ true → cond (some && (few && digits)) (Some n) None ≡ Some n
+chosen : (some few digits : Bool) (n : ℕ) → some ≡ true → few ≡ true → digits ≡ true → cond (few && (some && digits)) (Some n) None ≡ Some n
 chosen true true true n p q r = refl
-chosen false few digits n p q r = cc
-chosen true false digits n p q r = cc
+chosen false true digits n p q r = cc
+chosen some false digits n p q r = cc
 chosen true true false n p q r = cc
+
+-- a number that stops growing at a limit, and one digit more
+pub capped_more : (most n v d next sum product : ℕ) → most < 2 ^ 64 → n ≡ min most v → product ≡ min (n * 10) (2 ^ 64 - 1) → sum ≡ min (product + d) (2 ^ 64 - 1) → next ≡ min most sum → next ≡ min most (10 * v + d)
+capped_more most n v d next sum product fits is times plus least = omega arith
+
+-- of few digits, the limit of a word of 64 bits is none
+pub uncapped : (ds : List ℕ) (i n : ℕ) → i ≤ 18 → length ds ≤ i → n ≡ min (2 ^ 64 - 1) (value ds) → n < 10 ^ length ds → (n ≡ value ds) × (n < 10 ^ i)
+uncapped ds i n few short is below =
+    let small : 10 ^ length ds ≤ 10 ^ i = power_of_ten_grows (length ds) i short in
+    let fits : 10 ^ i ≤ 10 ^ 18 = power_of_ten_fits i few in
+    (omega arith, omega arith)
 
 -- at each place of a text of digits stands one
 pub digit_within : (ds : List ℕ) (i : ℕ) → list_all is_digit ds ≡ true → i < length ds → get_or ds i 0 ≤ 57

@@ -1,4 +1,5 @@
 pub mod Each
 pub mod Text
 pub mod Laws
+pub mod Verdict
 pub mod Rows

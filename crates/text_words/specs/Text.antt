@@ -1,5 +1,5 @@
 -- Lines, words and numbers of a text.
-use Rattle.std.specs.Prelude.{ℕ, ℤ, pos, neg_ℤ, ◌+◌, ◌-◌, ◌*◌, ◌^◌, ◌==◌, ◌&&◌, ◌||◌, Bool, not, nat_eq, nat_lt, nat_le, if◌then◌else◌, List, [], ◌∷◌, length}
+use Rattle.std.specs.Prelude.{ℕ, ℤ, pos, neg_ℤ, ◌+◌, ◌-◌, ◌*◌, ◌^◌, ◌==◌, ◌&&◌, ◌||◌, Bool, not, nat_eq, nat_lt, nat_le, min, if◌then◌else◌, List, [], ◌∷◌, length}
 use Rattle.std.specs.List.{slice_split, filter, list_all}
 use Rattle.std.specs.Option.{option_map}
 use Rattle.std.specs.declared.option.Option.{Option}
@@ -30,9 +30,13 @@ words line = filter is_word (slice_split is_blank line)
 abbrev pub is_digit : ℕ → Bool
 is_digit b = nat_le 48 b && nat_le b 57
 
+-- one or more digits and nothing else
+abbrev pub is_numeral : List ℕ → Bool
+is_numeral ds = nat_lt 0 (length ds) && list_all is_digit ds
+
 -- 1 to so many digits and nothing else
 abbrev pub are_digits : ℕ → List ℕ → Bool
-are_digits most ds = nat_lt 0 (length ds) && (nat_le (length ds) most && list_all is_digit ds)
+are_digits most ds = nat_le (length ds) most && is_numeral ds
 
 -- the number that digits spell: each digit times the power of ten of its place
 abbrev pub value : List ℕ → ℕ
@@ -42,6 +46,10 @@ value (d ∷ ds) = (d - 48) * 10 ^ length ds + value ds
 -- the number that 1 to so many digits spell, or None for any other text
 abbrev pub natural : ℕ → List ℕ → Option ℕ
 natural most ds = if are_digits most ds then Some (value ds) else None
+
+-- the number that digits spell, or the greatest that is wanted where it is greater, or None for any other text
+abbrev pub capped : ℕ → List ℕ → Option ℕ
+capped most ds = if is_numeral ds then Some (min most (value ds)) else None
 
 -- the number that an optional minus and 1 to so many digits spell, or None for any other word
 abbrev pub integer : ℕ → List ℕ → Option ℤ

@@ -5,8 +5,5 @@ pub mod laws;
 mod numbers;
 mod pieces;
 
-pub use numbers::{integer, natural};
+pub use numbers::{capped, integer, natural};
 pub use pieces::{is_text, lines, parts, words};
-
-#[cfg(test)]
-mod tests;

@@ -1,17 +1,30 @@
 //! Numbers that decimal digits spell.
-ghost use Rattle.std.specs.Prelude.{◌≡◌, ◌≤◌, ◌<◌, ◌^◌, ◌<ℤ◌, pos, neg_ℤ, true, length, IfSome};
+ghost use Rattle.std.specs.Prelude.{◌≡◌, ◌≤◌, ◌<◌, ◌^◌, ◌<ℤ◌, pos, neg_ℤ, true, length, min, IfSome};
 ghost use Rattle.std.specs.List.{list_all};
-ghost use Rattle.text_words.specs.Text.{is_digit, are_digits, value, natural, integer};
+ghost use Rattle.text_words.specs.Text.{is_digit, are_digits, is_numeral, value, natural, capped, integer};
+
+/// The number that one or more decimal digits spell, or `most` where it is greater; None where the
+/// bytes aren't such digits. There may be any number of them. Takes time in proportion to the bytes.
+pub fn capped(ds: &[u8], most: u64) -> Option<u64>
+    ensures { result ≡ capped most ds.now }
+{
+    if is_numeral(ds) {
+        Some(capped_value(ds, most))
+    } else {
+        None
+    }
+}
 
 /// The number that 1 to `most` decimal digits spell, or None where the bytes aren't such digits.
 /// Leading zeros are digits like any other. Takes time in proportion to the bytes.
+#[tactic(auto, using(crate::proofs::NumberLemmas::uncapped))]
 pub fn natural(ds: &[u8], most: usize) -> Option<u64>
     requires { most ≤ 18 }
     ensures same { result ≡ natural most ds.now }
     ensures below { IfSome result (λ n. n < 10 ^ most) }
 {
     if are_digits(ds, most) {
-        Some(value(ds, most))
+        Some(capped_value(ds, u64::MAX))
     } else {
         None
     }
@@ -49,7 +62,13 @@ fn negative(n: u64) -> i64
 fn are_digits(ds: &[u8], most: usize) -> bool
     ensures { result ≡ are_digits most ds.now }
 {
-    0 < ds.len() && (ds.len() <= most && all_digits(ds))
+    ds.len() <= most && is_numeral(ds)
+}
+
+fn is_numeral(ds: &[u8]) -> bool
+    ensures { result ≡ is_numeral ds.now }
+{
+    0 < ds.len() && all_digits(ds)
 }
 
 fn all_digits(ds: &[u8]) -> bool
@@ -64,18 +83,15 @@ fn is_digit(b: u8) -> bool
     b'0' <= b && b <= b'9'
 }
 
-// What the digits spell.
-#[tactic(auto, using(crate::proofs::NumberLemmas::power_of_ten_fits, crate::proofs::NumberLemmas::power_of_ten_grows))]
-fn value(ds: &[u8], most: usize) -> u64
-    requires few { most ≤ 18 }
-    requires short { length ds.now ≤ most }
-    requires digits { list_all is_digit ds.now ≡ true }
-    ensures same { result ≡ value ds.now }
-    ensures below { result < 10 ^ most }
+// What the digits spell, or `most` where it is greater.
+fn capped_value(ds: &[u8], most: u64) -> u64
+    requires { list_all is_digit ds.now ≡ true }
+    ensures same { result ≡ min most (value ds.now) }
+    ensures below { result < 10 ^ length ds.now }
 {
-    let mut n = 0;
+    let mut n: u64 = 0;
     for d in ds {
-        n = 10 * n + (*d - b'0') as u64;
+        n = most.min(n.saturating_mul(10).saturating_add((*d - b'0') as u64));
     }
     n
 }

@@ -3,24 +3,22 @@ ghost use Rattle.std.specs.Prelude.{◌≡◌, map, IfOk};
 ghost use Rattle.std.specs.List.{filter, slice_split};
 ghost use Rattle.text_words.specs.Text.{lines, parts_of, is_blank, is_word, words, is_text};
 
-use mesh_model::NoMemory;
-use std::alloc::Global;
+use std::alloc::{AllocError, Global};
 
 /// The lines of a text, which line feeds separate: one more than there are line feeds.
 /// A text that ends in a line feed has an empty last line.
 ///
 /// Takes time and memory in proportion to the text, and fails only for want of memory.
-pub fn lines(alloc: Global, text: &[u8]) -> Result<Vec<&[u8]>, NoMemory>
+pub fn lines(alloc: Global, text: &[u8]) -> Result<Vec<&[u8]>, AllocError>
     ensures { IfOk result (λ v. map (λ l. l.now) v.items ≡ lines text.now) }
 {
-    let lines = parts(alloc, text, b'\n')?;
-    Ok(lines)
+    parts(alloc, text, b'\n')
 }
 
 /// The parts of a text between the separators, empty ones too: one more than there are separators.
 ///
 /// Takes time and memory in proportion to the text, and fails only for want of memory.
-pub fn parts(alloc: Global, text: &[u8], separator: u8) -> Result<Vec<&[u8]>, NoMemory>
+pub fn parts(alloc: Global, text: &[u8], separator: u8) -> Result<Vec<&[u8]>, AllocError>
     ensures { IfOk result (λ v. map (λ p. p.now) v.items ≡ parts_of separator text.now) }
 {
     text.split(|b| *b == separator).collect(alloc)
@@ -30,21 +28,20 @@ pub fn parts(alloc: Global, text: &[u8], separator: u8) -> Result<Vec<&[u8]>, No
 /// carriage return.
 ///
 /// Takes time and memory in proportion to the line, and fails only for want of memory.
-pub fn words(alloc: Global, line: &[u8]) -> Result<Vec<&[u8]>, NoMemory>
+pub fn words(alloc: Global, line: &[u8]) -> Result<Vec<&[u8]>, AllocError>
     ensures { IfOk result (λ v. map (λ w. w.now) v.items ≡ words line.now) }
 {
     let parts = parts_between_blanks(alloc, line)?;
-    let words = nonempty(alloc, &parts)?;
-    Ok(words)
+    nonempty(alloc, &parts)
 }
 
-fn parts_between_blanks(alloc: Global, line: &[u8]) -> Result<Vec<&[u8]>, NoMemory>
+fn parts_between_blanks(alloc: Global, line: &[u8]) -> Result<Vec<&[u8]>, AllocError>
     ensures { IfOk result (λ v. map (λ p. p.now) v.items ≡ slice_split is_blank line.now) }
 {
     line.split(|b| is_blank(*b)).collect(alloc)
 }
 
-fn nonempty<'a>(alloc: Global, parts: &[&'a [u8]]) -> Result<Vec<&'a [u8]>, NoMemory>
+fn nonempty<'a>(alloc: Global, parts: &[&'a [u8]]) -> Result<Vec<&'a [u8]>, AllocError>
     ensures { IfOk result (λ v. v.items ≡ filter (λ p. is_word p.now) parts.now) }
 {
     parts.iter().copied().filter(|p| is_word(p)).collect(alloc)

@@ -1,6 +1,6 @@
 use Rattle.std.proofs.Common.{ap}
-use Rattle.mesh_model.specs.declared.slots.Buffer.{Buffer}
-use Rattle.mesh_model.proofs.Buffers.{same_buffers}
+use Rattle.plain_model.specs.declared.slots.Buffer.{Buffer}
+use Rattle.plain_model.proofs.Buffers.{same_buffers}
 use Rattle.mesh_session.specs.Operators.{no_slots}
 use Rattle.mesh_session.proofs.reply.no_slots.Goals as goal
 

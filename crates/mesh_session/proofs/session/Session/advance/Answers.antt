@@ -1,12 +1,23 @@
-use Rattle.std.proofs.Common.{rules}
-use Rattle.mesh_session.specs.State.{State}
-use Rattle.mesh_session.proofs.Sounds.{IsSoundState-advanced}
+use Rattle.std.proofs.Common.{◌≡◌}
+use Rattle.mesh_session.specs.State.{state_with, next_state}
+use Rattle.mesh_session.proofs.Sounds.{IsSoundState-next_state, state_with-next}
 use Rattle.mesh_session.proofs.session.Session.advance.Goals as goal
+
+-- what the session shows then is the next state
+goes_on : (c : goal.In_ok-put_next)
+    → state_with c.put_next.new.current c.put_next.new.undo.items c.put_next.new.redo.items
+    ≡ next_state (state_with c.self.inside.current c.self.inside.undo.items c.self.inside.redo.items) c.args.binding c.args.next
+goes_on c =
+    rw (c.in_ok-put_next.ensures.now, c.in_ok-put_next.ensures.undo, c.in_ok-put_next.ensures.redo)
+    (state_with-next c.self.inside.current c.args.next c.self.inside.undo.items c.self.inside.redo.items c.args.binding)
 
 pub invariant_of-self-2 : goal.invariant_of-self-2
 invariant_of-self-2 c =
-    let old : State = record { now = c.self.inside.current; undo = c.self.inside.undo.items; redo = c.self.inside.redo.items } in
-    IsSoundState-advanced old _ c.args.next (search rules) c.self.invariant c.requires
+    IsSoundState-next_state (state_with c.self.inside.current c.self.inside.undo.items c.self.inside.redo.items) _
+    c.args.binding c.args.next (goes_on c) c.self.invariant c.requires
+
+pub returns-clause-ok : goal.returns-clause-ok
+returns-clause-ok c = rw (← c.self.view_is) (goes_on c)
 
 pub returns-clause-sound : goal.returns-clause-sound
 returns-clause-sound c = invariant_of-self-2 c

@@ -1,5 +1,5 @@
 use Rattle.std.proofs.Common.{subst, sym}
-use Rattle.mesh_model.specs.Valid.{IsSound}
+use Rattle.plain_model.specs.Valid.{IsSound}
 use Rattle.mesh_session.proofs.Sounds.{IsSound-without_verts}
 use Rattle.mesh_session.proofs.session.Session.delete_verts.Goals as goal
 

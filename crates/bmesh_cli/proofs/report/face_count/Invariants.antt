@@ -1,9 +1,0 @@
-use Rattle.std.proofs.Common.{◌≡◌, ◌≤◌, take}
-use Rattle.mesh_model.specs.Table.{live}
-use Rattle.bmesh_cli.proofs.report.face_count.Given as goal
-
-abbrev pub invariant-loop-n : goal.invariant-loop-n
-invariant-loop-n g l = record {
-  told : l.count ≡ live (take l.n (g.S.Shape.complex l.shape).faces);
-  few : l.count ≤ l.n;
-}

@@ -1,0 +1,5 @@
+use Rattle.std.proofs.Common.{◌∙◌}
+use Rattle.bmesh_run.proofs.whole_run.refuse_model.Goals as goal
+
+pub returns : goal.returns
+returns g c = rw (c.as_bytes.ensures.value ∙ c.in-Ok.ensures.ok) at c.refuse.ensures

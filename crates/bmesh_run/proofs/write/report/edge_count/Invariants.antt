@@ -1,0 +1,9 @@
+use Rattle.std.proofs.Common.{◌≡◌, ◌≤◌, take}
+use Rattle.plain_model.specs.Table.{live}
+use Rattle.bmesh_run.proofs.write.report.edge_count.Given as goal
+
+abbrev pub invariant-loop-n : goal.invariant-loop-n
+invariant-loop-n g l = record {
+  told : l.count ≡ live (take l.n (g.S.Shape.complex l.shape).edges);
+  few : l.count ≤ l.n;
+}

@@ -1,0 +1,60 @@
+-- The report: a line for each command, and one for the end.
+use Rattle.std.specs.Prelude.{ℕ, ◌&&◌, Bool, true, false, is_some, codes, List, ◌++◌, length}
+use Rattle.std.specs.Fmt.{decimal}
+use Rattle.std.specs.List.{count_by, flat_map, zip, enumerate_from}
+use Rattle.plain_model.specs.Table.{live}
+use Rattle.plain_model.specs.Complex.{Complex, corner_sum}
+use Rattle.plain_model.specs.Incidence.{is_loose}
+use Rattle.plain_model.specs.Words.{elem_text, kind_text, why_text}
+use Rattle.plain_model.specs.declared.refusal.Refusal.{Refusal}
+use Rattle.plain_model.specs.declared.refusal.Place.{Place}
+use Rattle.plain_model.specs.declared.refusal.Place.TheVariants.{Nowhere, Elem, Kind}
+use Rattle.plain_model.specs.declared.slots.Slots.{Slots}
+use Rattle.plain_model.specs.declared.slots.Command.{Command}
+use Rattle.mesh_session.specs.State.{State}
+use Rattle.mesh_session.specs.declared.reply.Reply.{Reply}
+use Rattle.mesh_session.specs.declared.reply.Reply.TheVariants.{Done, Refused}
+
+-- the numbers of elements that a done command gives back
+abbrev pub done_line : ℕ → Slots → List ℕ
+done_line line slots = decimal line ++ (codes " done verts=" ++ (decimal (length slots.geom.verts) ++ (codes " edges=" ++ (decimal (length slots.geom.edges) ++ (codes " faces=" ++ (decimal (length slots.geom.faces) ++ codes "\n"))))))
+
+-- why a command is refused, and the element or the kind if there is one
+abbrev pub refused_line : ℕ → Refusal → Place → List ℕ
+refused_line line r Nowhere = decimal line ++ (codes " refused " ++ (why_text r.why ++ codes "\n"))
+refused_line line r (Elem x) = decimal line ++ (codes " refused " ++ (why_text r.why ++ (codes " " ++ (elem_text x ++ codes "\n"))))
+refused_line line r (Kind k) = decimal line ++ (codes " refused " ++ (why_text r.why ++ (codes " " ++ (kind_text k ++ codes "\n"))))
+
+-- the line of a command by its reply
+abbrev pub reply_line : ℕ → Reply → List ℕ
+reply_line line (Done slots) = done_line line slots
+reply_line line (Refused r) = refused_line line r r.place
+
+-- the lines of commands by their replies
+abbrev pub reply_lines : List Command → List Reply → List ℕ
+reply_lines commands replies = flat_map (λ p. reply_line p.0.line p.1) (zip commands replies)
+
+-- a command was refused
+abbrev pub is_refused : Reply → Bool
+is_refused (Done slots) = false
+is_refused (Refused r) = true
+
+-- how many edges have no corner
+abbrev pub loose_count : Complex → ℕ
+loose_count c = count_by (λ e. is_some e.1 && is_loose c e.0) (enumerate_from 0 c.edges)
+
+-- the numbers of live elements and of live corners
+abbrev pub element_counts : Complex → List ℕ
+element_counts c = codes "end verts=" ++ (decimal (live c.verts) ++ (codes " edges=" ++ (decimal (live c.edges) ++ (codes " faces=" ++ (decimal (live c.faces) ++ (codes " corners=" ++ decimal (corner_sum c.faces)))))))
+
+-- the number of loose edges, that of refused commands, and the lengths of both lists
+abbrev pub command_counts : ℕ → State → List ℕ
+command_counts refused s = codes " loose=" ++ (decimal (loose_count s.now) ++ (codes " refused=" ++ (decimal refused ++ (codes " undo=" ++ (decimal (length s.undo) ++ (codes " redo=" ++ (decimal (length s.redo) ++ codes "\n")))))))
+
+-- the last line: all these numbers
+abbrev pub end_line : ℕ → State → List ℕ
+end_line refused s = element_counts s.now ++ command_counts refused s
+
+-- the report of commands by their replies and the last state
+abbrev pub report : List Command → List Reply → State → List ℕ
+report commands replies s = reply_lines commands replies ++ end_line (count_by is_refused replies) s

@@ -1,0 +1,71 @@
+ghost use Rattle.std.specs.Prelude.{◌≡◌, OnOk, Some};
+ghost use Rattle.std.specs.Option.{option_map};
+ghost use Rattle.plain_model.specs.Valid.{IsValid};
+ghost use Rattle.byte_sink.specs.Wrote.{with_after};
+ghost use Rattle.obj_text.specs.Written.{text};
+ghost use Rattle.worlds.specs.Files.{put};
+ghost use Rattle.worlds.specs.Told.{asked};
+ghost use Rattle.bmesh_run.specs.Whole.{MakesPart, OnlyWrites, GainsStart, PrintsPart, CausesOut};
+ghost use Rattle.worlds.specs.declared.start.Purpose.TheVariants.{Writing};
+
+use obj_text::write;
+use plain_model::Shape;
+use std::alloc::Global;
+use worlds::{World, WorldFault};
+
+/// Writes a shape's text to a file. A fault may leave a prefix of the text.
+pub fn write_file<W: World, S: Shape>(
+    alloc: Global,
+    world: &mut W,
+    name: &str,
+    shape: &S,
+) -> Result<(), WorldFault>
+    requires { IsValid (S.complex shape.now) }
+    ensures ok { OnOk result (W.told world.new ≡ record (asked (W.told world.old) name.now Writing) {
+      made = option_map (put name.now (text 0 (S.complex shape.now))) (W.told world.old).made;
+      begun = None;
+    }) }
+    ensures part { MakesPart (W.told world.old) (W.told world.new) name.now (text 0 (S.complex shape.now)) }
+    ensures only { OnlyWrites (W.told world.old) (W.told world.new) }
+    ensures started { GainsStart result (W.told world.old) (W.told world.new) name.now Writing }
+    ensures cause { CausesOut result (W.told world.old) (W.told world.new) }
+{
+    begin_file(alloc, world, name, shape)?;
+    world.finish()?;
+    Ok(())
+}
+
+/// Begins a file with a shape's text. A fault may leave a prefix of the text.
+pub fn begin_file<W: World, S: Shape>(
+    alloc: Global,
+    world: &mut W,
+    name: &str,
+    shape: &S,
+) -> Result<(), WorldFault>
+    requires { IsValid (S.complex shape.now) }
+    ensures ok { OnOk result (W.told world.new ≡ record (asked (W.told world.old) name.now Writing) {
+      made = option_map (put name.now (text 0 (S.complex shape.now))) (W.told world.old).made;
+      begun = Some name.now;
+    }) }
+    ensures part { MakesPart (W.told world.old) (W.told world.new) name.now (text 0 (S.complex shape.now)) }
+    ensures only { OnlyWrites (W.told world.old) (W.told world.new) }
+    ensures started { GainsStart result (W.told world.old) (W.told world.new) name.now Writing }
+    ensures cause { CausesOut result (W.told world.old) (W.told world.new) }
+{
+    world.start_write(name)?;
+    write(alloc, shape, 0, world)?;
+    Ok(())
+}
+
+/// Prints all the bytes. A fault may leave a prefix of them.
+pub fn print_all<W: World>(world: &mut W, bytes: &[u8]) -> Result<(), WorldFault>
+    ensures ok { OnOk result (W.told world.new ≡ record (W.told world.old) { printed = with_after (W.told world.old).printed bytes.now }) }
+    ensures part { PrintsPart (W.told world.old) (W.told world.new) bytes.now }
+    ensures cause { CausesOut result (W.told world.old) (W.told world.new) }
+{
+    let mut done = 0;
+    while done < bytes.len() {
+        done += world.print(&bytes[done..])?;
+    }
+    Ok(())
+}

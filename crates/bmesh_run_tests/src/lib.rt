@@ -1,0 +1,5 @@
+//! Tests of the whole run.
+#![tactic(auto)]
+
+#[cfg(test)]
+mod runs;

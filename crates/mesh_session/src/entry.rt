@@ -1,0 +1,18 @@
+//! What undo and redo go to.
+
+use plain_model::slots::Slots;
+use plain_model::{Draft, Sequence};
+
+/// A name, and the slots that a command bound to it.
+#[derive(Drop)]
+pub struct Binding {
+    pub name: Sequence<u8>,
+    pub slots: Slots,
+}
+
+/// A complex that undo or redo goes to, and the binding that goes or comes with it, if there is one.
+#[derive(Drop)]
+pub struct Entry {
+    pub complex: Draft,
+    pub binding: Option<Binding>,
+}

@@ -1,0 +1,14 @@
+//! What a line spells.
+
+use plain_model::{Point, Sequence};
+
+/// What the words of a line spell, whatever stands before it.
+#[derive(Debug, Drop)]
+pub enum Item {
+    /// Nothing: a line without words.
+    Nothing,
+    /// A vertex at a point.
+    Vertex(Point),
+    /// A face, by the indices of its vertices in order.
+    Ring(Sequence<u32>),
+}

@@ -1,0 +1,8 @@
+use sequence::Text;
+
+/// A file: bytes under a name.
+#[derive(Drop, Debug)]
+pub struct Entry {
+    pub name: Text,
+    pub bytes: Text,
+}
