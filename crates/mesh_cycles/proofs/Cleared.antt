@@ -1,11 +1,9 @@
 -- A store in which no cycle begins.
-use Rattle.std.proofs.Common.{◌≡◌, ◌*◌, ℕ, Bool, List, [], ◌∷◌, Option, Some, None, length, replicate, refl, sym, ap, ◌∙◌, subst}
+use Rattle.std.proofs.Common.{◌≡◌, ℕ, Bool, List, [], Option, Some, None, length, sym, ap, ◌∙◌, subst}
 use Rattle.std.specs.Option.{option_map, option_and_then}
 use Rattle.raw_pool.specs.declared.pool.Slot.{Slot}
-use Rattle.link_ring.specs.Members.{HasMember}
 use Rattle.link_ring.specs.Ring.{LinkMap, ReadsAs}
 use Rattle.link_ring.proofs.Members.{member_of}
-use Rattle.mesh_store.specs.Slots.{at, vacated}
 use Rattle.mesh_store.specs.Stored.{Stored, dart_links, radial_links, round_links}
 use Rattle.mesh_store.specs.Parts.{cleared}
 use Rattle.mesh_store.specs.declared.cells.VertCell.{VertCell}

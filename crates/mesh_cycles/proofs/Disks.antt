@@ -21,7 +21,7 @@ use Rattle.mesh_store.specs.declared.cells.EdgeCell.{EdgeCell}
 use Rattle.mesh_cycles.specs.Owners.{end_on, side_at, dart_at, dart_end, first_dart, first_radial}
 use Rattle.mesh_cycles.specs.Lists.{same_dart, same_radial, same_round, without}
 use Rattle.mesh_cycles.specs.Cycles.{AreCycles, disk_of, IsInNoDisk, EndsDiffer}
-use Rattle.mesh_cycles.specs.Edits.{SameDisksBut, SameRadials, SameRounds, beside_disk, EditsDisk}
+use Rattle.mesh_cycles.specs.Edits.{beside_disk, EditsDisk}
 use Rattle.mesh_cycles.proofs.CycleKinds.{Kind, Holds, Changes, cycle_at, own_cycle, other_cycles, still_holds, in_none, near_more, last_more}
 use Rattle.mesh_cycles.proofs.RingLists.{parted}
 use Rattle.mesh_cycles.proofs.Besides.{disk_bare}

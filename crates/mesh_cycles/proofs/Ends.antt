@@ -1,26 +1,23 @@
 -- One end of an edge is written whose dart is in no disk cycle; the other dart may be in one.
-use Rattle.std.proofs.Common.{◌≡◌, ◌≢◌, ◌<◌, ◌==◌, ◌&&◌, ℕ, zero, suc, Bool, true, false, cond, nat_lt, is_some, List, Option, Some, None, refl, sym, ap, ◌∙◌, subst, inl, inr, arith}
+use Rattle.std.proofs.Common.{◌≡◌, ◌≢◌, ◌<◌, ◌==◌, ◌&&◌, ℕ, zero, suc, Bool, cond, nat_lt, is_some, List, Option, Some, None, refl, sym, ap, ◌∙◌, subst, inl, inr, arith}
 use Rattle.std.specs.Prelude.{slice_index_or}
 use Rattle.std.specs.Option.{option_map, option_map_or}
 use Rattle.std.proofs.lemmas.Bool.{cases_eq, false_from_ne_true, eqb-true, eq-eqb}
 use Rattle.std.proofs.lemmas.Option.{same_Some}
 use Rattle.raw_pool.specs.declared.pool.Slot.{Slot}
 use Rattle.link_ring.specs.Members.{HasMember}
-use Rattle.link_ring.proofs.Rings.{SameOn}
 use Rattle.mesh_store.specs.Limits.{darts_limited, radials_limited, rounds_limited, is_dart}
 use Rattle.mesh_store.specs.Slots.{at}
-use Rattle.mesh_store.specs.Stored.{Stored, dart_links, dart_next, dart_prev, no_slot, with_ends, change_edge}
+use Rattle.mesh_store.specs.Stored.{Stored, dart_next, dart_prev, no_slot, with_ends, change_edge}
 use Rattle.mesh_store.specs.declared.cells.Dart.{Dart}
 use Rattle.mesh_store.specs.declared.cells.EdgeCell.{EdgeCell}
-use Rattle.mesh_store.proofs.Places.{unwritten}
 use Rattle.mesh_cycles.specs.Owners.{end_on, side_at, dart_end, dart_at, first_dart}
 use Rattle.mesh_cycles.specs.Cycles.{AreCycles, disk_of, IsInNoDisk}
 use Rattle.mesh_cycles.proofs.Cells.{changed_here, changed_elsewhere}
 use Rattle.mesh_cycles.proofs.RingLists.{member_key}
 use Rattle.mesh_cycles.specs.Adds.{SameCycles}
-use Rattle.mesh_cycles.proofs.Stays.{Keeps, same_by, first_edge_in, first_by, first_member}
+use Rattle.mesh_cycles.proofs.Stays.{same_by, first_edge_in, first_by, first_member}
 use Rattle.mesh_cycles.proofs.Elements.{told_set, differ_set, ends_differ, first_loop_in}
-use Rattle.mesh_cycles.proofs.Frames.{disk_kind, radial_kind, round_kind}
 
 -- the vertex at which a list of ends ends on a side
 abbrev pub end_in : List Slot → ℕ → ℕ

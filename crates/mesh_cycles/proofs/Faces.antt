@@ -1,5 +1,5 @@
 -- The faces of loops, each with one of them, and which loops there are around a vertex.
-use Rattle.std.proofs.Common.{◌≡◌, ℕ, zero, suc, ◌<◌, ◌==◌, ◌&&◌, ◌||◌, Bool, true, false, List, Option, Some, None, refl, sym, ap, ◌∙◌, subst, inl, inr, arith, eq-eqb}
+use Rattle.std.proofs.Common.{◌≡◌, ℕ, zero, suc, ◌<◌, ◌==◌, ◌||◌, Bool, true, false, List, Option, Some, None, refl, sym, ap, ◌∙◌, subst, inl, inr, arith, eq-eqb}
 use Rattle.std.specs.List.{filter, find}
 use Rattle.std.specs.Option.{option_map, option_map_or, option_or, option_and_then}
 use Rattle.std.proofs.lemmas.Bool.{false≢true, and_from, and_parts, or_left, or_right, or_cases, eqb-true}
@@ -17,13 +17,13 @@ use Rattle.mesh_store.specs.declared.cells.EdgeCell.{EdgeCell}
 use Rattle.mesh_store.specs.declared.cells.LoopCell.{LoopCell}
 use Rattle.mesh_cycles.specs.Owners.{end_on}
 use Rattle.mesh_cycles.specs.Cycles.{AreCycles, AreComplete, disk_of, radial_of}
-use Rattle.mesh_cycles.specs.Found.{edges_around, loops_along, loops_in, loops_around, stands_at, ends_at, is_corner_at, face_at, leader, leads, faces_led}
+use Rattle.mesh_cycles.specs.Found.{edges_around, loops_along, loops_in, loops_around, stands_at, ends_at, is_corner_at, face_at, leader, leads, faces_led, IsAlone}
 use Rattle.mesh_cycles.specs.Around.{AreCornersAt}
 use Rattle.mesh_cycles.specs.Faces.{AreFacesOf}
 use Rattle.mesh_cycles.proofs.Mapped.{filtered_from, filtered_to, distinct_filter, joined_to, found_passes, finds_one}
 use Rattle.mesh_cycles.proofs.RingLists.{member_key}
 use Rattle.mesh_cycles.proofs.Around.{same_slot, along_names, in_names, around_along}
-use Rattle.mesh_cycles.proofs.Leaders.{itself, is_found}
+use Rattle.mesh_cycles.proofs.Leaders.{itself, is_found, face_is, leads_by}
 
 -- ---- no face comes twice
 
@@ -73,6 +73,14 @@ leader_of st cycles test ls f l h is = by_own (option_and_then (λ (k : Slot). f
         let t = finds_one (λ (l : Slot). (face_at st l).0 == f.0) ls l h (eq-eqb (face_at st l).0 f.0 (ap (λ (s : Slot). s.0) is)) in
         let p = found_passes (λ (l : Slot). (face_at st l).0 == f.0) ls t.0 t.1 in
         (t.0, t.1, p.0, same_slot (face_at st t.0) f (eqb-true (face_at st t.0).0 f.0 p.1))
+
+-- a face comes with the only loop that names it
+pub leads_alone : (st : Stored) → AreCycles st → (test : Slot → Bool) (ls : List Slot) (f l : Slot) → HasMember ls l → option_map (λ (c : LoopCell). c.face) (at st.loops l.0) ≡ Some f
+    → IsLive st.faces.cells f.0 → IsAlone st ls f l → leads st test ls l ≡ true
+leads_alone st cycles test ls f l h is live alone =
+    let t = leader_of st cycles test ls f l h (face_is (at st.loops l.0) f is) in
+    leads_by st test ls l f (find test (loops_in st f.0)) is live refl
+    ∙ ap (λ (o : Option Slot). option_map_or (λ (k : Slot). k.0 == l.0) o false) (t.1 ∙ ap Some (alone t.0 t.2 t.3)) ∙ itself l
 
 -- the faces that come are exactly the live ones of the loops
 pub faces_all : (st : Stored) → AreCycles st → (test : Slot → Bool) (ls : List Slot) → AreFacesOf st ls (faces_led st test ls ls)

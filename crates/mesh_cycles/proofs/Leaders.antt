@@ -51,7 +51,7 @@ takes_own st own ls f l h is =
     ∙ ap (λ (o : Option Slot). option_or o (find (λ (k : Slot). (face_at st k).0 == f.0) ls)) (finds_slot ls l h)
 
 -- the face of a loop
-face_is : (o : Option LoopCell) (f : Slot) → option_map (λ (c : LoopCell). c.face) o ≡ Some f → option_map_or (λ (c : LoopCell). c.face) o no_slot ≡ f
+pub face_is : (o : Option LoopCell) (f : Slot) → option_map (λ (c : LoopCell). c.face) o ≡ Some f → option_map_or (λ (c : LoopCell). c.face) o no_slot ≡ f
 face_is None f e = absurd (cc)
 face_is (Some c) f e = cc
 
@@ -123,10 +123,14 @@ passed_more st own ls f first next l face p n is e = record {
       ∙ sym (find-append (λ (k : Slot). (face_at st k).0 == f.0) ls (l ∷ []));
 }
 
+-- at the end the list was given
+pub yielded_all : {S : Type 0} {steps : S → Option Slot → S → Type 0} {s : S} {all : List Slot} → YieldsList steps (λ l. l) s all → (xs : List Slot) (t u : S) → Yields steps s xs t → steps t None u → xs ≡ all
+yielded_all w xs t u y n = sym (map-id xs) ∙ (YieldsList-end w xs t y None u refl n).0
+
 -- all are passed
 pub passed_all : {S : Type 0} {steps : S → Option Slot → S → Type 0} {s : S} {all : List Slot} → YieldsList steps (λ l. l) s all → (xs : List Slot) (t u : S) → Yields steps s xs t → steps t None u
     → (st : Stored) (own : Option Slot) (f : Slot) (first : Option Slot) → ArePassed st own xs f first → first ≡ own_or_first st own all f
 passed_all w xs t u y n st own f first p =
     p.named
     ∙ sym (ap (λ (o : Option Slot). option_or o (find (λ (l : Slot). (face_at st l).0 == f.0) xs)) p.apart)
-    ∙ ap (λ (ls : List Slot). own_or_first st own ls f) (sym (map-id xs) ∙ (YieldsList-end w xs t y None u refl n).0)
+    ∙ ap (λ (ls : List Slot). own_or_first st own ls f) (yielded_all w xs t u y n)

@@ -20,3 +20,4 @@ pub mod Ends
 pub mod Turns
 pub mod Reverses
 pub mod Cleared
+pub mod Completeness

@@ -19,7 +19,7 @@ use Rattle.mesh_store.specs.declared.cells.LoopCell.{LoopCell}
 use Rattle.mesh_cycles.specs.Owners.{end_on, side_at, edge_of, first_dart, first_radial}
 use Rattle.mesh_cycles.specs.Lists.{same_dart, same_radial, same_round, without}
 use Rattle.mesh_cycles.specs.Cycles.{AreCycles, radial_of, IsInNoRadial}
-use Rattle.mesh_cycles.specs.Edits.{SameDisks, SameRadialsBut, SameRounds, beside_radial, EditsRadial}
+use Rattle.mesh_cycles.specs.Edits.{beside_radial, EditsRadial}
 use Rattle.mesh_cycles.proofs.RingLists.{parted}
 use Rattle.mesh_cycles.proofs.CycleKinds.{Kind, Holds, Changes, cycle_at, own_cycle, other_cycles, still_holds, in_none, near_more, last_more}
 use Rattle.mesh_cycles.proofs.Besides.{radial_bare}

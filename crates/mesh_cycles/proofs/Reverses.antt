@@ -2,15 +2,14 @@
 use Rattle.std.proofs.Common.{◌≡◌, ℕ, zero, suc, List, [], ◌∷◌, Option, Some, None, length, refl, sym, ap, ◌∙◌, subst, inl, inr, reverse}
 use Rattle.std.specs.Option.{option_map}
 use Rattle.std.proofs.lemmas.List.{length-reverse}
-use Rattle.raw_pool.specs.declared.pool.Slot.{Slot}
 use Rattle.link_ring.specs.Members.{HasMember}
-use Rattle.link_ring.specs.Ring.{LinkMap, IsRing, ReadsAs}
+use Rattle.link_ring.specs.Ring.{IsRing}
 use Rattle.link_ring.specs.Changes.{SameOutside}
 use Rattle.link_ring.proofs.Members.{member_of, member_reverse}
-use Rattle.link_ring.proofs.Reading.{first_begins, reads_at, reads_along}
+use Rattle.link_ring.proofs.Reading.{first_begins, reads_at}
 use Rattle.link_ring.proofs.Rings.{ring_along}
 use Rattle.mesh_store.specs.Slots.{at, changed}
-use Rattle.mesh_store.specs.Stored.{Stored, round_links, change_face, beside_rounds}
+use Rattle.mesh_store.specs.Stored.{Stored, round_links, beside_rounds}
 use Rattle.mesh_store.specs.declared.cells.Round.{Round}
 use Rattle.mesh_store.specs.declared.cells.FaceCell.{FaceCell}
 use Rattle.mesh_cycles.specs.Owners.{face_of, len_of, first_round}

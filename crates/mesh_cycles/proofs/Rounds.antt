@@ -16,8 +16,8 @@ use Rattle.mesh_store.specs.declared.cells.LoopCell.{LoopCell}
 use Rattle.mesh_store.specs.declared.cells.FaceCell.{FaceCell}
 use Rattle.mesh_cycles.specs.Owners.{face_of, len_of}
 use Rattle.mesh_cycles.specs.Lists.{same_dart, same_radial, same_round}
-use Rattle.mesh_cycles.specs.Cycles.{AreCycles, round_of, IsCounted, EndsDiffer}
-use Rattle.mesh_cycles.specs.Edits.{SameDisks, SameRadials, SameRoundsBut, bare_face, beside_round, EditsRound}
+use Rattle.mesh_cycles.specs.Cycles.{AreCycles, EndsDiffer}
+use Rattle.mesh_cycles.specs.Edits.{bare_face, beside_round, EditsRound}
 use Rattle.mesh_cycles.proofs.CycleKinds.{Kind, Holds, Changes, cycle_at, own_cycle, other_cycles, still_holds}
 use Rattle.mesh_cycles.proofs.Besides.{round_bare}
 use Rattle.mesh_cycles.proofs.Cells.{told, as_long, changed_twice, changed_over, changed_here, changed_elsewhere}

@@ -1,5 +1,5 @@
 -- Another loop of a face becomes its first.
-use Rattle.std.proofs.Common.{◌≡◌, ◌≢◌, ◌++◌, ℕ, List, [], ◌∷◌, Option, Some, None, length, refl, sym, ap, ◌∙◌, subst, arith, length-append}
+use Rattle.std.proofs.Common.{◌≡◌, ◌++◌, ℕ, List, [], ◌∷◌, Option, Some, length, refl, sym, ap, ◌∙◌, subst, arith, length-append}
 use Rattle.std.specs.Option.{option_map, option_and_then}
 use Rattle.raw_pool.specs.declared.pool.Slot.{Slot}
 use Rattle.raw_pool.specs.Slots.{IsLive}
@@ -13,7 +13,7 @@ use Rattle.mesh_store.specs.Slots.{at, changed}
 use Rattle.mesh_store.specs.Stored.{Stored, round_links, with_face_loop, change_face, beside_rounds}
 use Rattle.mesh_store.specs.declared.cells.Round.{Round}
 use Rattle.mesh_store.specs.declared.cells.FaceCell.{FaceCell}
-use Rattle.mesh_cycles.specs.Owners.{face_of, len_of, first_round}
+use Rattle.mesh_cycles.specs.Owners.{len_of, first_round}
 use Rattle.mesh_cycles.specs.Lists.{same_round, from_member, before_member, turned_to}
 use Rattle.mesh_cycles.specs.Cycles.{AreCycles, round_of, IsCounted}
 use Rattle.mesh_cycles.specs.Edits.{SameDisks, SameRadials, SameRoundsBut, EditsRound, bare_face, beside_round}

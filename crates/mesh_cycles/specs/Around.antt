@@ -1,8 +1,7 @@
 -- What is left of the loops around a vertex.
-use Rattle.std.specs.Prelude.{◌≡◌, ◌↔◌, ◌++◌, ℕ, true, List, Option}
+use Rattle.std.specs.Prelude.{◌≡◌, ◌↔◌, ◌++◌, ℕ, true, List}
 use Rattle.std.specs.List.{filter, flat_map}
 use Rattle.raw_pool.specs.declared.pool.Slot.{Slot}
-use Rattle.raw_pool.specs.Slots.{IsLive}
 use Rattle.link_ring.specs.Members.{HasMember}
 use Rattle.mesh_store.specs.Stored.{Stored}
 use Rattle.mesh_cycles.specs.declared.along_edge.LoopsOfEdge.{LoopsOfEdge}

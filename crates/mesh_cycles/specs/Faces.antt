@@ -1,6 +1,5 @@
 -- What is left of the faces along an edge, and of those around a vertex.
-use Rattle.std.specs.Prelude.{◌≡◌, ◌↔◌, ℕ, Bool, List, map}
-use Rattle.std.specs.List.{filter}
+use Rattle.std.specs.Prelude.{◌≡◌, ◌↔◌, ℕ, List}
 use Rattle.raw_pool.specs.declared.pool.Slot.{Slot}
 use Rattle.raw_pool.specs.Slots.{IsLive}
 use Rattle.link_ring.specs.Members.{HasMember}

@@ -61,6 +61,10 @@ abbrev pub own_or_first : Stored → Option Slot → List Slot → Slot → Opti
 own_or_first st own ls f =
     option_or (option_and_then (λ (k : Slot). find (λ (l : Slot). l.0 == k.0) ls) own) (find (λ (l : Slot). (face_at st l).0 == f.0) ls)
 
+-- of some loops, only this one names a face
+abbrev pub IsAlone : Stored → List Slot → Slot → Slot → Type 0
+IsAlone st ls f l = (k : Slot) → HasMember ls k → face_at st k ≡ f → k ≡ l
+
 -- with which of some loops a face comes: its own cycle's first that passes a test, or else the first that names it
 abbrev pub leader : Stored → (Slot → Bool) → List Slot → Slot → Option Slot
 leader st test ls f = own_or_first st (find test (loops_in st f.0)) ls f

@@ -1,10 +1,10 @@
 -- What the iterators have left to give, and when they may be asked for it.
-use Rattle.std.specs.Prelude.{◌*◌, ℕ, Bool, List, [], length, map, drop, IfSome}
+use Rattle.std.specs.Prelude.{ℕ, Bool, List, [], map, drop, IfSome}
 use Rattle.std.specs.Option.{option_map_or}
 use Rattle.raw_pool.specs.declared.pool.Slot.{Slot}
 use Rattle.link_ring.specs.Ring.{LinkMap}
 use Rattle.link_ring.specs.Walk.{items_left, CanWalk}
-use Rattle.mesh_store.specs.Stored.{Stored, dart_links, radial_links, round_links}
+use Rattle.mesh_store.specs.Stored.{dart_links, radial_links, round_links}
 use Rattle.mesh_store.specs.declared.cells.Dart.{Dart}
 use Rattle.mesh_store.specs.declared.cells.Radial.{Radial}
 use Rattle.mesh_store.specs.declared.cells.Round.{Round}

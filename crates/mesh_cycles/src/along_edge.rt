@@ -11,7 +11,7 @@ ghost use Rattle.mesh_cycles.specs.Faces.{faces_along_left, CanGiveFacesAlong, A
 
 use crate::cycle_iter::{CycleIter, members_of};
 use crate::in_face::corners_of_face;
-use crate::leader::own_or_first;
+use crate::leader::{is_alone, own_or_first};
 use crate::radial::first_radial;
 use mesh_store::{Radial, Slot, Store};
 use std::iter::FusedIterator;
@@ -68,9 +68,9 @@ pub(crate) fn no_loops(st: &Store) -> LoopsOfEdge<'_>
 
 /// An iterator over the faces along an edge, which [`faces_of_edge`] makes.
 ///
-/// After the last face it answers `None` for ever. An item takes time that grows with the loops passed over and the
-/// corners of their faces. Each further loop of a face along the edge, and each loop that isn't in its face's own cycle,
-/// takes one more walk along the edge.
+/// After the last face it answers `None` for ever. Each loop passed over takes a walk along the edge, or as many steps
+/// as its face has corners, where these are fewer. Where a face has several loops along the edge, each takes that walk
+/// and those steps.
 #[derive(Drop)]
 #[must_use]
 pub struct FacesOfEdge<'a> {
@@ -131,6 +131,11 @@ fn leads_along(st: &Store, e: Slot, l: Slot) -> bool
     let f = st.loop_face(l);
     if !st.has_face(f) {
         return false;
+    }
+    // A loop that alone names its face needs no walk of the face.
+    let loops = loops_of_edge(st, e);
+    if is_alone(st, loops, l, f, st.face_len(f)) {
+        return true;
     }
     let own = first_along(st, f, e);
     own == Some(l) || own_or_first(st, own, loops_of_edge(st, e), f) == Some(l)

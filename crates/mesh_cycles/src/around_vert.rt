@@ -14,7 +14,7 @@ use crate::along_edge::{LoopsOfEdge, loops_of_edge, no_loops};
 use crate::cycle_iter::{CycleIter, members_of};
 use crate::disk::first_dart;
 use crate::in_face::corners_of_face;
-use crate::leader::own_or_first;
+use crate::leader::{is_alone, own_or_first};
 use mesh_store::{Dart, Slot, Store};
 use std::iter::FusedIterator;
 
@@ -134,9 +134,9 @@ fn next_standing(st: &Store, v: Slot, loops: &mut LoopsOfEdge<'_>) -> Option<Slo
 
 /// An iterator over the faces around a vertex, which [`faces_of_vert`] makes.
 ///
-/// After the last face it answers `None` for ever. An item takes time that grows with the loops passed over and the
-/// corners of their faces. Each further loop of a face at the vertex, and each loop that isn't in its face's own cycle,
-/// takes one more walk around the vertex.
+/// After the last face it answers `None` for ever. Each loop passed over takes a walk around the vertex, or as many
+/// steps as its face has corners, where these are fewer. Where a face has several loops at the vertex, each takes that
+/// walk and those steps.
 #[derive(Drop)]
 #[must_use]
 pub struct FacesOfVert<'a> {
@@ -197,6 +197,11 @@ fn leads_around(st: &Store, v: Slot, l: Slot) -> bool
     let f = st.loop_face(l);
     if !st.has_face(f) {
         return false;
+    }
+    // A loop that alone names its face needs no walk of the face.
+    let loops = loops_of_vert(st, v);
+    if is_alone(st, loops, l, f, st.face_len(f)) {
+        return true;
     }
     let own = first_corner_at(st, f, v);
     own == Some(l) || own_or_first(st, own, loops_of_vert(st, v), f) == Some(l)

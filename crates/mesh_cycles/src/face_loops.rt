@@ -40,7 +40,8 @@ pub fn loop_insert(st: &mut Store, after: Slot, l: Slot)
     requires member { (f : ℕ) × HasMember (round_of st.old f) (record { 0 = after }) }
     requires same { face_of st.old l ≡ face_of st.old after }
     requires apart { IsInNoRound st.old l }
-    ensures { (f : ℕ) → face_of st.old after ≡ Some f → EditsRound st.old st.new f (record { 0 = l } ∷ round_of st.old f)
+    ensures { (f : ℕ) → face_of st.old after ≡ Some f
+        → EditsRound st.old st.new f (record { 0 = l } ∷ round_of st.old f)
         (with_behind same_round (record { 0 = after }) (record { 0 = l }) (round_of st.old f)) }
 {
     let face = st.loop_face(after);
@@ -55,7 +56,8 @@ pub fn loop_insert_counted(st: &mut Store, after: Slot, l: Slot)
     requires counted { (f : ℕ) → face_of st.old after ≡ Some f → IsCounted st.old f }
     requires same { face_of st.old l ≡ face_of st.old after }
     requires apart { IsInNoRound st.old l }
-    ensures { (f : ℕ) → face_of st.old after ≡ Some f → EditsRound st.old st.new f (record { 0 = l } ∷ round_of st.old f)
+    ensures { (f : ℕ) → face_of st.old after ≡ Some f
+        → EditsRound st.old st.new f (record { 0 = l } ∷ round_of st.old f)
         (with_behind same_round (record { 0 = after }) (record { 0 = l }) (round_of st.old f)) }
 {
     let face = st.loop_face(after);

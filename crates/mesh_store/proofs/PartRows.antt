@@ -1,10 +1,9 @@
 -- Each place of a part's pool has its row, before and after a change of the part's values.
-use Rattle.std.proofs.Common.{◌≡◌, ◌≤◌, ◌<◌, ℕ, length, refl, arith, sym}
-use Rattle.std.proofs.lemmas.List.{length-set, length-map}
+use Rattle.std.proofs.Common.{◌≡◌, ◌<◌, ℕ, length, arith}
 use Rattle.raw_pool.proofs.SlotFacts.{live_below}
 use Rattle.cust_data.specs.Layers.{LayerTable}
 use Rattle.mesh_store.specs.Stored.{Stored}
-use Rattle.mesh_store.specs.Parts.{table_of, with_table, change_table, IsLiveIn, HasRows}
+use Rattle.mesh_store.specs.Parts.{table_of, with_table, IsLiveIn, HasRows}
 use Rattle.mesh_store.specs.declared.layers.Part.{Part}
 use Rattle.mesh_store.specs.declared.layers.Part.TheVariants.{Vert, Edge, Loop, Face}
 

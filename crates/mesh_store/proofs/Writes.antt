@@ -1,15 +1,12 @@
 -- A write over one cell, as the links and the spare slots see it.
-use Rattle.std.proofs.Common.{◌≡◌, ℕ, ◌<◌, List, Option, Some, None, map, length, sym, ap, ◌∙◌, set-set}
+use Rattle.std.proofs.Common.{◌≡◌, ℕ, List, Option, Some, None, map, sym, ap, ◌∙◌}
 use Rattle.std.specs.Prelude.{slice_set}
 use Rattle.std.specs.Option.{option_map}
 use Rattle.std.proofs.Math.Seq.{map-set_same}
-use Rattle.raw_pool.specs.declared.pool.Slot.{Slot}
 use Rattle.mesh_store.specs.Slots.{at}
-use Rattle.mesh_store.specs.Naming.{NamedCells}
 use Rattle.mesh_store.specs.Stored.{Stored, without_disk, without_radial, without_round, beside_darts, beside_radials, beside_rounds}
 use Rattle.mesh_store.specs.declared.cells.EdgeCell.{EdgeCell}
 use Rattle.mesh_store.specs.declared.cells.LoopCell.{LoopCell}
-use Rattle.mesh_store.proofs.Places.{written}
 
 -- a write that leaves what f tells of a cell leaves it of all
 beside : {X Y : Type 0} (f : X → Y) (xs : List (Option X)) (s : ℕ) (x y : X) → at xs s ≡ Some x → f y ≡ f x → map (option_map f) (slice_set xs s (Some y)) ≡ map (option_map f) xs

@@ -3,7 +3,7 @@ use Rattle.std.specs.Borrow.{Fml, MutBor, Lends}
 use Rattle.cust_data.specs.Layers.{LayerTable}
 use Rattle.cust_data.specs.contracts.layer_set.LayerSet.{the_row as table_row}
 use Rattle.mesh_store.specs.contracts.layers.Layers.{the_row}
-use Rattle.mesh_store.specs.Parts.{table_of, with_table}
+use Rattle.mesh_store.specs.Parts.{with_table}
 use Rattle.mesh_store.specs.declared.layers.Layers.{Layers}
 use Rattle.mesh_store.specs.declared.layers.Part.{Part}
 

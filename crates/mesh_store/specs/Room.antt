@@ -1,5 +1,5 @@
 -- Room for elements, names and rows of values that are to come.
-use Rattle.std.specs.Prelude.{◌≡◌, ◌≤◌, ◌<◌, ◌+◌, ◌-◌, ℕ, nat_le, if◌then◌else◌, List, length, slice_index}
+use Rattle.std.specs.Prelude.{◌≡◌, ◌≤◌, ◌+◌, ◌-◌, ℕ, nat_le, if◌then◌else◌, List, length, slice_index}
 use Rattle.std.specs.declared.option.Option.{Option}
 use Rattle.cust_data.specs.Layers.{LayerTable, with_places}
 use Rattle.raw_pool.specs.Slots.{spare_count, GrowsFor}

@@ -54,7 +54,8 @@ impl<T: Numbered> NamedPool<T> {
         requires wide { HoldsLink T.row }
         ensures spare { OnOk result (n ≤ spare_count self.new.cells) }
         ensures reach { OnOk result (reach ≤ length self.new.names) }
-        ensures enough { n ≤ spare_count self.old.cells → reach ≤ length self.old.names → IsOk result × (self.new ≡ self.old) }
+        ensures enough { n ≤ spare_count self.old.cells → reach ≤ length self.old.names →
+            IsOk result × (self.new ≡ self.old) }
         ensures widens { WidensPool self.old self.new n CHUNK reach }
     {
         self.pool.reserve(n)?;
@@ -163,7 +164,8 @@ impl<T: Numbered> NamedPool<T> {
 
     // The least live slot above a slot.
     fn after(&self, s: Slot) -> Option<Slot>
-        ensures slot { MatchOption result (NoneLiveFrom self.now.cells (s.0 + 1)) (λ t. IsFirstLive self.now.cells (s.0 + 1) t.0) }
+        ensures slot { MatchOption result
+            (NoneLiveFrom self.now.cells (s.0 + 1)) (λ t. IsFirstLive self.now.cells (s.0 + 1) t.0) }
         ensures named { AreNamed T.number self.now.cells self.now.names }
     {
         self.pool.after(s)

@@ -43,9 +43,21 @@ impl Model for Store {
 
     ghost Value = { Stored };
 
-    ghost view = { λ s. record { verts = s.verts; edges = s.edges; loops = s.loops; faces = s.faces; values = s.values } };
+    ghost view = { λ s. record {
+      verts = s.verts;
+      edges = s.edges;
+      loops = s.loops;
+      faces = s.faces;
+      values = s.values;
+    } };
 
-    ghost invariant = { λ s. HasRows (record { verts = s.verts; edges = s.edges; loops = s.loops; faces = s.faces; values = s.values }) };
+    ghost invariant = { λ s. HasRows (record {
+      verts = s.verts;
+      edges = s.edges;
+      loops = s.loops;
+      faces = s.faces;
+      values = s.values;
+    }) };
 }
 
 /// Room.
@@ -120,7 +132,8 @@ impl Store {
 
     /// The three numbers below which names of vertices, edges and faces need no memory. Constant time.
     pub fn reach(&self) -> [u32; 3]
-        ensures { result ≡ length self.now.verts.names ∷ length self.now.edges.names ∷ length self.now.faces.names ∷ [] }
+        ensures { result ≡
+            length self.now.verts.names ∷ length self.now.edges.names ∷ length self.now.faces.names ∷ [] }
     {
         [self.verts.reach(), self.edges.reach(), self.faces.reach()]
     }
@@ -328,27 +341,30 @@ impl Store {
     /// The slot of the least live vertex name that isn't below `least`, and `None` exactly where there is none. It
     /// takes a step for each 64 names between.
     pub fn vert_from(&self, least: u32) -> Option<Slot>
-        ensures slot { MatchOption result (NoneLiveFrom self.now.verts.names least) (LeadsFirst self.now.verts.names least) }
+        ensures slot { MatchOption result
+            (NoneLiveFrom self.now.verts.names least) (LeadsFirst self.now.verts.names least) }
         ensures named { AreNamed (λ c. c.number) self.now.verts.cells self.now.verts.names }
         ensures few { length self.now.verts.names < 2 ^ 32 }
     {
         self.verts.slot_from(least)
     }
 
-    /// The slot of the least live edge name that isn't below `least`, and `None` exactly where there is none. It takes a
-    /// step for each 64 names between.
+    /// The slot of the least live edge name that isn't below `least`, and `None` exactly where there is none. It takes
+    /// a step for each 64 names between.
     pub fn edge_from(&self, least: u32) -> Option<Slot>
-        ensures slot { MatchOption result (NoneLiveFrom self.now.edges.names least) (LeadsFirst self.now.edges.names least) }
+        ensures slot { MatchOption result
+            (NoneLiveFrom self.now.edges.names least) (LeadsFirst self.now.edges.names least) }
         ensures named { AreNamed (λ c. c.number) self.now.edges.cells self.now.edges.names }
         ensures few { length self.now.edges.names < 2 ^ 32 }
     {
         self.edges.slot_from(least)
     }
 
-    /// The slot of the least live face name that isn't below `least`, and `None` exactly where there is none. It takes a
-    /// step for each 64 names between.
+    /// The slot of the least live face name that isn't below `least`, and `None` exactly where there is none. It takes
+    /// a step for each 64 names between.
     pub fn face_from(&self, least: u32) -> Option<Slot>
-        ensures slot { MatchOption result (NoneLiveFrom self.now.faces.names least) (LeadsFirst self.now.faces.names least) }
+        ensures slot { MatchOption result
+            (NoneLiveFrom self.now.faces.names least) (LeadsFirst self.now.faces.names least) }
         ensures named { AreNamed (λ c. c.number) self.now.faces.cells self.now.faces.names }
         ensures few { length self.now.faces.names < 2 ^ 32 }
     {

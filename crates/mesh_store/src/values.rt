@@ -62,7 +62,8 @@ impl Store {
         requires from { pos 0 ≤ℤ num }
         requires until { num ≤ℤ den }
         requires parts { pos 0 <ℤ den }
-        ensures { self.new ≡ change_table part (λ t. with_row t to.0 (mix_row t.layers (row_of t a.0) (row_of t b.0) num den)) self.old }
+        ensures { self.new ≡ change_table part
+            (λ t. with_row t to.0 (mix_row t.layers (row_of t a.0) (row_of t b.0) num den)) self.old }
     {
         let values = self.values.of_mut(part);
         values.mix_row(a.0 as usize, b.0 as usize, num, den, to.0 as usize);
@@ -113,7 +114,8 @@ impl Store {
     /// The name of a part's layer `k`, which is below their number.
     pub fn layer_name(&self, part: Part, k: usize) -> &[u8]
         requires { k < length (table_of part self.now.values).layers }
-        ensures { option_map (λ (l : Layer). l.name) (slice_get (table_of part self.now.values).layers k) ≡ Some result.now }
+        ensures { option_map (λ (l : Layer). l.name) (slice_get (table_of part self.now.values).layers k)
+            ≡ Some result.now }
     {
         self.values.of(part).layer_name(k)
     }
@@ -121,7 +123,8 @@ impl Store {
     /// The width of a part's layer `k`, which is below their number.
     pub fn layer_width(&self, part: Part, k: usize) -> u8
         requires { k < length (table_of part self.now.values).layers }
-        ensures { option_map (λ (l : Layer). l.width) (slice_get (table_of part self.now.values).layers k) ≡ Some result }
+        ensures { option_map (λ (l : Layer). l.width) (slice_get (table_of part self.now.values).layers k)
+            ≡ Some result }
     {
         self.values.of(part).layer_width(k)
     }
@@ -129,7 +132,8 @@ impl Store {
     /// The rule by which the numbers of a part's layer `k` are mixed; `k` is below the number of layers.
     pub fn layer_rule(&self, part: Part, k: usize) -> Rule
         requires { k < length (table_of part self.now.values).layers }
-        ensures { option_map (λ (l : Layer). l.rule) (slice_get (table_of part self.now.values).layers k) ≡ Some result }
+        ensures { option_map (λ (l : Layer). l.rule) (slice_get (table_of part self.now.values).layers k)
+            ≡ Some result }
     {
         self.values.of(part).layer_rule(k)
     }

@@ -19,7 +19,8 @@ pub(crate) fn fill_first<T>(
     requires holds { PoolHolds len chunks.old.items tags.old.words.items head spare }
     requires room { 1 ≤ spare }
     ensures holds { PoolHolds len chunks.new.items tags.new.words.items result (spare - 1) }
-    ensures vacant { (head < length (slots_of chunks.old.items)) × (get_or (slots_of chunks.old.items) head None ≡ None) }
+    ensures vacant { (head < length (slots_of chunks.old.items))
+        × (get_or (slots_of chunks.old.items) head None ≡ None) }
     ensures gains { slots_of chunks.new.items ≡ slice_set (slots_of chunks.old.items) head (Some value) }
 {
     let chunk = &mut chunks[head as usize / len];

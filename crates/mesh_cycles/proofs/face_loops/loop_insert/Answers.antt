@@ -1,7 +1,6 @@
-use Rattle.std.proofs.Common.{◌≡◌, ◌∷◌, ℕ, Some, sym, ap, ◌∙◌, subst}
+use Rattle.std.proofs.Common.{◌∷◌, sym, ◌∙◌, subst}
 use Rattle.std.proofs.lemmas.Option.{same_Some}
 use Rattle.link_ring.proofs.Members.{member_of}
-use Rattle.mesh_cycles.specs.Owners.{face_of}
 use Rattle.mesh_cycles.specs.Lists.{same_round, with_behind}
 use Rattle.mesh_cycles.specs.Cycles.{IsCounted}
 use Rattle.mesh_cycles.proofs.LoopCalls.{named_face, face_live}

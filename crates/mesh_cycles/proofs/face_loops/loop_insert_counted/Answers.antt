@@ -1,9 +1,8 @@
 use Rattle.std.proofs.Common.{◌≡◌, length, refl, sym, ◌∙◌, arith}
 use Rattle.std.proofs.lemmas.Option.{same_Some}
 use Rattle.link_ring.proofs.Reading.{member_without}
-use Rattle.mesh_store.specs.Slots.{at}
 use Rattle.mesh_cycles.specs.Cycles.{round_of}
-use Rattle.mesh_cycles.proofs.LoopCalls.{names_face, named_face, face_live, one_more, loop_inserted}
+use Rattle.mesh_cycles.proofs.LoopCalls.{named_face, face_live, one_more, loop_inserted}
 use Rattle.mesh_cycles.proofs.face_loops.loop_insert_counted.Goals as goal
 
 pub face_len-len-requires : goal.face_len-len-requires

@@ -1,4 +1,4 @@
-use Rattle.std.proofs.Common.{sym, ap, ◌∙◌}
+use Rattle.std.proofs.Common.{sym}
 use Rattle.link_ring.proofs.Members.{member_of}
 use Rattle.mesh_cycles.specs.Lists.{same_round, without}
 use Rattle.mesh_cycles.proofs.Counts.{recounted, edited_through}

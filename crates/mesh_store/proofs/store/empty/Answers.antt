@@ -1,4 +1,4 @@
-use Rattle.std.proofs.Common.{◌≡◌, ℕ, List, Option, None, length, replicate, ap, ◌∙◌, subst}
+use Rattle.std.proofs.Common.{ℕ, List, Option, None, length, replicate, ap, ◌∙◌, subst}
 use Rattle.std.proofs.lemmas.List.{length-set}
 use Rattle.raw_pool.specs.declared.pool.Slot.{Slot}
 use Rattle.raw_pool.specs.Slots.{NoneLiveFrom}

@@ -1,4 +1,4 @@
-use Rattle.std.proofs.Common.{◌≡◌, ◌<◌, None, length, ap, ◌∙◌, subst, sym}
+use Rattle.std.proofs.Common.{◌≡◌, ◌<◌, None, length, subst, sym}
 use Rattle.mesh_store.specs.Slots.{at}
 use Rattle.mesh_store.specs.Naming.{NamedCells}
 use Rattle.mesh_store.proofs.Directory.{added}

@@ -1,10 +1,8 @@
-use Rattle.std.proofs.Common.{◌≡◌, ℕ, List, Option, Some, None, length, replicate, sym, ap, ◌∙◌, subst}
-use Rattle.std.specs.Prelude.{slice_set}
+use Rattle.std.proofs.Common.{ℕ, Option, None, length, replicate, ap, ◌∙◌, subst}
 use Rattle.std.proofs.lemmas.List.{length-set}
 use Rattle.raw_pool.specs.declared.pool.Slot.{Slot}
 use Rattle.raw_pool.specs.Slots.{NoneLiveFrom}
 use Rattle.mesh_store.specs.Naming.{NamedCells}
-use Rattle.mesh_store.specs.Slots.{vacated}
 use Rattle.mesh_store.proofs.Clearing.{FirstLeft, fewer_left, none_vacated, none_named}
 use Rattle.mesh_store.proofs.named_pool.NamedPool.clear.Goals as goal
 

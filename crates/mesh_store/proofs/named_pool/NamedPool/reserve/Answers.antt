@@ -1,4 +1,4 @@
-use Rattle.std.proofs.Common.{◌≡◌, ℕ, ◌<◌, ◌≤◌, ◌+◌, ◌*◌, ◌^◌, length, subst, sym, refl, arith}
+use Rattle.std.proofs.Common.{◌<◌, ◌≤◌, ◌+◌, ◌*◌, ◌^◌, length, subst, sym, refl, arith}
 use Rattle.mesh_store.specs.Naming.{NamedCells}
 use Rattle.mesh_store.proofs.Growth.{names_hold, widens_none, widened_fits}
 use Rattle.mesh_store.proofs.named_pool.NamedPool.reserve.Goals as goal

@@ -1,4 +1,4 @@
-use Rattle.std.proofs.Common.{◌≡◌, ◌<◌, ◌^◌, ◌+◌, length, subst, sym}
+use Rattle.std.proofs.Common.{◌<◌, ◌^◌, ◌+◌, length, subst, sym}
 use Rattle.std.specs.Prelude.{slice_index}
 use Rattle.mesh_store.specs.Stored.{Stored}
 use Rattle.mesh_store.specs.Room.{WidensStore}

@@ -1,5 +1,5 @@
 -- `is_wide` tells a fact that each chunk owns.
-use Rattle.raw_pool.proofs.Steps.{refl, ap, ℕ, ◌+◌, ◌*◌, List, [], ◌∷◌, ◌++◌, SProp, id⊢, never, ftrue, flft, Fn, w32, w64, inst_fn, Val, vptr, vint, vunit, Env, WpFn, ◌⊑◌, fact, tables, ‵, raw, ◌⊛◌, prop, at_ret, ◌$◌, ◌∵◌, !, qed, move, keep, drop, use1, split, join, regoal, fsplit, fjoin, fpick, feq_i, suffices, done, stop, of_opd, unit_lit, first, blocks, exec, returns, enter, alloc_all, pass_all, free_all, look_at, get, through, sets, sets_last, env, yes, owns, RefOf, hidden_shr, Ptr, RawPtr, in_a_block, plain, types_at, nothing, Stays, stay_dropped, walk_of, ends_at, says, Goes-dropped, after, El, R, args, proved_at, chunk_lends}
+use Rattle.raw_pool.proofs.Steps.{refl, ℕ, ◌+◌, List, [], ◌∷◌, ◌++◌, SProp, id⊢, never, ftrue, flft, Fn, inst_fn, Val, vptr, vunit, Env, WpFn, tables, ‵, raw, ◌⊛◌, prop, at_ret, ◌$◌, ◌∵◌, !, qed, move, keep, drop, use1, split, join, regoal, fsplit, fjoin, fpick, feq_i, suffices, done, of_opd, unit_lit, first, exec, returns, enter, alloc_all, pass_all, free_all, look_at, sets_last, env, yes, owns, RefOf, hidden_shr, RawPtr, in_a_block, plain, types_at, nothing, Stays, stay_dropped, walk_of, ends_at, says, Goes-dropped, after, El, R, args, proved_at, chunk_lends}
 use Rattle.raw_pool.proofs.Opens.{Row, el_chunk, chunk_seen}
 use Rattle.raw_pool.specs.contracts.chunk.Chunk.is_wide as f
 use Rattle.raw_pool.specs.contracts.chunk.Chunk.is_wide.Key.{name as #self}
