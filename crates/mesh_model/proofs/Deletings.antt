@@ -12,7 +12,8 @@ use Rattle.mesh_model.specs.declared.names.VertName.{VertName}
 use Rattle.mesh_model.specs.declared.records.EdgeRec.{EdgeRec}
 use Rattle.mesh_model.specs.declared.records.CornerRec.{CornerRec}
 use Rattle.mesh_model.specs.declared.records.FaceRec.{FaceRec}
-use Rattle.mesh_model.proofs.Tables.{stands, there_from, there_passes, length-kept, length-kept_names, was-kept, was-kept_names, still-kept, there-kept_names}
+use Rattle.mesh_model.proofs.Tables.{stands, there_from, there_passes, length-kept, length-kept_names, was-kept}
+use Rattle.mesh_model.proofs.Tables.{was-kept_names, still-kept, there-kept_names}
 use Rattle.mesh_model.proofs.Lists.{list_any-none}
 use Rattle.mesh_model.proofs.Edges.{joins-cases}
 use Rattle.mesh_model.proofs.Polygons.{after, after-below, closed-at}
@@ -26,18 +27,25 @@ pub AreClosed-valid : (c : Complex) → IsValid c → AreClosed c
 AreClosed-valid c h n f is = (h.faces n f is).polygon.closed
 
 -- an edge between two vertices that stay, stays
-edge_stays : (c : Complex) (vs : List VertName) (n : ℕ) (v w : VertName) → is_among vs v ≡ false → is_among vs w ≡ false → passes (joins v w) (at c.edges n) ≡ true → IsThere (without_verts c vs).edges n
+edge_stays : (c : Complex) (vs : List VertName) (n : ℕ) (v w : VertName) → is_among vs v ≡ false → is_among vs w ≡ false
+    → passes (joins v w) (at c.edges n) ≡ true → IsThere (without_verts c vs).edges n
 edge_stays c vs n v w out_v out_w along =
     let it = stands (at c.edges n) (there_passes (joins v w) (at c.edges n) along) in
-    let ends : has_end_among vs it.0 ≡ false = elim (joins-cases v w it.0 (sym (ap (passes (joins v w)) it.1) ∙ along)) [
-      | inl same ↦ or_from (is_among vs it.0.a) (is_among vs it.0.b) (ap (is_among vs) same.0 ∙ out_v) (ap (is_among vs) same.1 ∙ out_w)
-      | inr back ↦ or_from (is_among vs it.0.a) (is_among vs it.0.b) (ap (is_among vs) back.0 ∙ out_w) (ap (is_among vs) back.1 ∙ out_v)
+    let ends : has_end_among vs it.0 ≡ false =
+    elim (joins-cases v w it.0 (sym (ap (passes (joins v w)) it.1) ∙ along)) [
+      | inl same ↦ or_from (is_among vs it.0.a) (is_among vs it.0.b) (ap (is_among vs) same.0
+          ∙ out_v) (ap (is_among vs) same.1 ∙ out_w)
+      | inr back ↦ or_from (is_among vs it.0.a) (is_among vs it.0.b) (ap (is_among vs) back.0
+          ∙ out_w) (ap (is_among vs) back.1 ∙ out_v)
     ] in
-    there_from (without_verts c vs).edges n it.0 (still-kept (λ e. not (has_end_among vs e)) c.edges n it.0 it.1 (not_from_false (has_end_among vs it.0) ends))
+    there_from (without_verts c vs).edges n it.0
+    (still-kept (λ e. not (has_end_among vs e)) c.edges n it.0 it.1 (not_from_false (has_end_among vs it.0) ends))
 
 -- a vertex that isn't among them stays
-vert_stays : (c : Complex) (vs : List VertName) (v : VertName) → is_among vs v ≡ false → IsThere c.verts v.0 → IsThere (without_verts c vs).verts v.0
-vert_stays c vs v out there = there-kept_names (λ n. not (is_among vs (record { 0 = n }))) c.verts v.0 (not_from_false (is_among vs v) out) there
+vert_stays : (c : Complex) (vs : List VertName) (v : VertName) → is_among vs v ≡ false → IsThere c.verts v.0
+    → IsThere (without_verts c vs).verts v.0
+vert_stays c vs v out there =
+    there-kept_names (λ n. not (is_among vs (record { 0 = n }))) c.verts v.0 (not_from_false (is_among vs v) out) there
 
 pub IsPart-without_verts : (c : Complex) (vs : List VertName) → IsLinked c → AreClosed c → IsPart (without_verts c vs) c
 IsPart-without_verts c vs h closed =
@@ -60,24 +68,32 @@ IsPart-without_verts c vs h closed =
           (vert_stays c vs e.a out.0 old.a, vert_stays c vs e.b out.1 old.b);
       corners = λ n f is i d less.
           let was = was-kept spares_face c.faces n f is in
-          let out : All (λ (k : CornerRec). is_among vs k.vert ≡ false) f.corners = list_any-none (λ (k : CornerRec). is_among vs k.vert) f.corners (not-true (has_corner_among vs f) was.1) in
+          let out : All (λ (k : CornerRec). is_among vs k.vert ≡ false) f.corners =
+          list_any-none (λ (k : CornerRec). is_among vs k.vert) f.corners (not-true (has_corner_among vs f) was.1)
+          in
           let old = (h.faces n f was.0).corners i d less in
           let along = closed-at c f.corners (closed n f was.0) i d less in
           let next = after-below (length f.corners) i less in
           record {
             vert = vert_stays c vs (get_or f.corners i d).vert (out i d less) old.vert;
-            edge = edge_stays c vs (get_or f.corners i d).edge.0 (get_or f.corners i d).vert (get_or f.corners (after (length f.corners) i) d).vert (out i d less) (out (after (length f.corners) i) d next) along;
+            edge = edge_stays c vs (get_or f.corners i d).edge.0 (get_or f.corners i d).vert
+                (get_or f.corners (after (length f.corners) i) d).vert (out i d less)
+                (out (after (length f.corners) i) d next) along;
           };
     }
 
-pub IsLinked-without_verts : (c : Complex) (vs : List VertName) → AreClosed c → IsLinked c → IsLinked (without_verts c vs)
+pub IsLinked-without_verts : (c : Complex) (vs : List VertName) → AreClosed c → IsLinked c
+    → IsLinked (without_verts c vs)
 IsLinked-without_verts c vs closed h = IsLinked-part (without_verts c vs) c (IsPart-without_verts c vs h closed) h
 
 pub IsValid-without_verts : (c : Complex) (vs : List VertName) → IsValid c → IsValid (without_verts c vs)
-IsValid-without_verts c vs h = IsValid-part (without_verts c vs) c (IsPart-without_verts c vs h.linked (AreClosed-valid c h)) h
+IsValid-without_verts c vs h =
+    IsValid-part (without_verts c vs) c (IsPart-without_verts c vs h.linked (AreClosed-valid c h)) h
 
 pub IsSimple-without_verts : (c : Complex) (vs : List VertName) → IsSimple c → IsSimple (without_verts c vs)
-IsSimple-without_verts c vs h = IsSimple-part (without_verts c vs) c (λ n e is. (was-kept (λ e. not (has_end_among vs e)) c.edges n e is).0) h
+IsSimple-without_verts c vs h =
+    IsSimple-part (without_verts c vs) c (λ n e is. (was-kept (λ e. not (has_end_among vs e)) c.edges n e is).0) h
 
 pub IsSound-without_verts : (c : Complex) (vs : List VertName) → IsSound c → IsSound (without_verts c vs)
-IsSound-without_verts c vs h = record { valid = IsValid-without_verts c vs h.valid; simple = IsSimple-without_verts c vs h.simple }
+IsSound-without_verts c vs h =
+    record { valid = IsValid-without_verts c vs h.valid; simple = IsSimple-without_verts c vs h.simple }

@@ -28,18 +28,27 @@ joins-turned v w e = or_comm (eqb e.a.0 v.0 && eqb e.b.0 w.0) (eqb e.a.0 w.0 && 
 
 -- one edge joins the ends of another where that one joins its ends
 pub joins-symm : (d e : EdgeRec) → joins d.a d.b e ≡ joins e.a e.b d
-joins-symm d e = rw (nat_eq_equiv.symm e.a.0 d.a.0, nat_eq_equiv.symm e.b.0 d.b.0, nat_eq_equiv.symm e.a.0 d.b.0, nat_eq_equiv.symm e.b.0 d.a.0)
+joins-symm d e = rw (
+  nat_eq_equiv.symm e.a.0 d.a.0,
+  nat_eq_equiv.symm e.b.0 d.b.0,
+  nat_eq_equiv.symm e.a.0 d.b.0,
+  nat_eq_equiv.symm e.b.0 d.a.0,
+)
     (ap (λ (b : Bool). (eqb d.a.0 e.a.0 && eqb d.b.0 e.b.0) || b) (and_comm (eqb d.b.0 e.a.0) (eqb d.a.0 e.b.0)))
 
 -- an edge joins its own ends
 pub joins-itself : (e : EdgeRec) → joins e.a e.b e ≡ true
-joins-itself e = or_left (eqb e.a.0 e.a.0 && eqb e.b.0 e.b.0) (eqb e.a.0 e.b.0 && eqb e.b.0 e.a.0) (ap (λ (b : Bool). b && eqb e.b.0 e.b.0) (eq-eqb e.a.0 e.a.0 refl) ∙ eq-eqb e.b.0 e.b.0 refl)
+joins-itself e = or_left (eqb e.a.0 e.a.0 && eqb e.b.0 e.b.0) (eqb e.a.0 e.b.0 && eqb e.b.0 e.a.0)
+    (ap (λ (b : Bool). b && eqb e.b.0 e.b.0) (eq-eqb e.a.0 e.a.0 refl) ∙ eq-eqb e.b.0 e.b.0 refl)
 
 -- an edge that joins two vertices has these two ends, in one order or the other
-pub joins-cases : (v w : VertName) (e : EdgeRec) → joins v w e ≡ true → ((e.a ≡ v) × (e.b ≡ w)) ⊎ ((e.a ≡ w) × (e.b ≡ v))
+pub joins-cases : (v w : VertName) (e : EdgeRec) → joins v w e ≡ true
+    → ((e.a ≡ v) × (e.b ≡ w)) ⊎ ((e.a ≡ w) × (e.b ≡ v))
 joins-cases v w e h = elim (or_cases (eqb e.a.0 v.0 && eqb e.b.0 w.0) (eqb e.a.0 w.0 && eqb e.b.0 v.0) h) [
-  | inl ahead ↦ let both = and_parts (eqb e.a.0 v.0) (eqb e.b.0 w.0) ahead in inl (same_vert_name e.a v (eqb-true e.a.0 v.0 both.0), same_vert_name e.b w (eqb-true e.b.0 w.0 both.1))
-  | inr back ↦ let both = and_parts (eqb e.a.0 w.0) (eqb e.b.0 v.0) back in inr (same_vert_name e.a w (eqb-true e.a.0 w.0 both.0), same_vert_name e.b v (eqb-true e.b.0 v.0 both.1))
+  | inl ahead ↦ let both = and_parts (eqb e.a.0 v.0) (eqb e.b.0 w.0) ahead in
+      inl (same_vert_name e.a v (eqb-true e.a.0 v.0 both.0), same_vert_name e.b w (eqb-true e.b.0 w.0 both.1))
+  | inr back ↦ let both = and_parts (eqb e.a.0 w.0) (eqb e.b.0 v.0) back in
+      inr (same_vert_name e.a w (eqb-true e.a.0 w.0 both.0), same_vert_name e.b v (eqb-true e.b.0 v.0 both.1))
 ]
 
 -- and so the first is one of its ends

@@ -1,5 +1,6 @@
 -- A complex with records more, each of them right by itself, is linked, valid and simple.
-use Rattle.std.proofs.Common.{◌≡◌, ℕ, ◌≤◌, true, ◌&&◌, IsTrue, ◌⊎◌, inl, inr, ℤ, pos, negsuc, int_le, List, [], ◌∷◌, length, get_or, refl, sym, ap, ◌∙◌, subst, arith, Option, Some, None}
+use Rattle.std.proofs.Common.{◌≡◌, ℕ, ◌≤◌, true, ◌&&◌, IsTrue, ◌⊎◌, inl, inr, ℤ, pos, negsuc, int_le, List, [], ◌∷◌}
+use Rattle.std.proofs.Common.{length, get_or, refl, sym, ap, ◌∙◌, subst, arith, Option, Some, None}
 use Rattle.std.specs.List.{list_all, zip}
 use Rattle.std.proofs.lemmas.Bool.{and_parts, and_from, leb-true, le-leb}
 use Rattle.cust_data.specs.Layers.{total}
@@ -7,7 +8,9 @@ use Rattle.mesh_model.specs.Table.{at, allows, IsThere}
 use Rattle.mesh_model.specs.Complex.{KindLayers, Complex, layers_of, verts_of, material_layer, smooth_layer}
 use Rattle.mesh_model.specs.Values.{number_in}
 use Rattle.mesh_model.specs.Incidence.{joins, sides}
-use Rattle.mesh_model.specs.Valid.{AreKindLayers, IsVertLinked, IsEdgeLinked, IsCornerLinked, IsFaceLinked, IsLinked, is_along_side, IsPolygon, is_material, is_smooth, IsVertValid, IsEdgeValid, IsFaceValid, IsWithinLimits, IsValid, IsSimple, IsSound}
+use Rattle.mesh_model.specs.Valid.{AreKindLayers, IsVertLinked, IsEdgeLinked, IsCornerLinked, IsFaceLinked, IsLinked}
+use Rattle.mesh_model.specs.Valid.{is_along_side, IsPolygon, is_material, is_smooth, IsVertValid, IsEdgeValid}
+use Rattle.mesh_model.specs.Valid.{IsFaceValid, IsWithinLimits, IsValid, IsSimple, IsSound}
 use Rattle.mesh_model.specs.declared.names.Kind.TheVariants.{Verts, Edges, Corners, Faces}
 use Rattle.mesh_model.specs.declared.names.VertName.{VertName}
 use Rattle.mesh_model.specs.declared.records.EdgeRec.{EdgeRec}
@@ -44,7 +47,8 @@ pub record AreNewValid (d c : Complex) : Type 0 where
 
 -- an edge that has the same two ends as a new one is that one
 abbrev pub AreNewSimple : Complex → Complex → Type 0
-AreNewSimple d c = (m n : ℕ) (e f : EdgeRec) → at d.edges m ≡ Some e → at d.edges n ≡ Some f → IsTrue (joins e.a e.b f) → (at c.edges m ≡ Some e) ⊎ (m ≡ n)
+AreNewSimple d c = (m n : ℕ) (e f : EdgeRec) → at d.edges m ≡ Some e → at d.edges n ≡ Some f → IsTrue (joins e.a e.b f)
+    → (at c.edges m ≡ Some e) ⊎ (m ≡ n)
 
 -- ---- LINKED
 
@@ -55,10 +59,17 @@ pub record Keeps (d c : Complex) : Type 0 where
   pub layers : d.layers ≡ c.layers
 
 pub Keeps-grown : (d c : Complex) → IsGrown d c → Keeps d c
-Keeps-grown d c g = record { verts = there-Extends c.verts d.verts g.verts; edges = there-Extends c.edges d.edges g.edges; layers = g.layers }
+Keeps-grown d c g =
+    record {
+      verts = there-Extends c.verts d.verts g.verts;
+      edges = there-Extends c.edges d.edges g.edges;
+      layers =
+          g.layers;
+    }
 
 pub IsVertLinked-kept : (d c : Complex) → Keeps d c → (r : VertRec) → IsVertLinked c r → IsVertLinked d r
-IsVertLinked-kept d c g r l = record { vals = l.vals ∙ ap (λ (ls : KindLayers). total (layers_of ls Verts)) (sym g.layers) }
+IsVertLinked-kept d c g r l =
+    record { vals = l.vals ∙ ap (λ (ls : KindLayers). total (layers_of ls Verts)) (sym g.layers) }
 
 pub IsEdgeLinked-kept : (d c : Complex) → Keeps d c → (e : EdgeRec) → IsEdgeLinked c e → IsEdgeLinked d e
 IsEdgeLinked-kept d c g e l = record {
@@ -86,9 +97,12 @@ IsFaceLinked-kept d c g f l = record {
 pub IsLinked-kept : (d c : Complex) → Keeps d c → AreNewLinked d c → IsLinked c → IsLinked d
 IsLinked-kept d c g new h = record {
   layers = subst AreKindLayers (sym g.layers) h.layers;
-  verts = λ n r is. elim (new.verts n r is) [ inl old ↦ IsVertLinked-kept d c g r (h.verts n r old) | inr right ↦ right ];
-  edges = λ n e is. elim (new.edges n e is) [ inl old ↦ IsEdgeLinked-kept d c g e (h.edges n e old) | inr right ↦ right ];
-  faces = λ n f is. elim (new.faces n f is) [ inl old ↦ IsFaceLinked-kept d c g f (h.faces n f old) | inr right ↦ right ];
+  verts = λ n r is. elim (new.verts n r is)
+      [ inl old ↦ IsVertLinked-kept d c g r (h.verts n r old) | inr right ↦ right ];
+  edges = λ n e is. elim (new.edges n e is)
+      [ inl old ↦ IsEdgeLinked-kept d c g e (h.edges n e old) | inr right ↦ right ];
+  faces = λ n f is. elim (new.faces n f is)
+      [ inl old ↦ IsFaceLinked-kept d c g f (h.faces n f old) | inr right ↦ right ];
 }
 
 pub IsLinked-grown : (d c : Complex) → IsGrown d c → AreNewLinked d c → IsLinked c → IsLinked d
@@ -96,34 +110,48 @@ IsLinked-grown d c g new h = IsLinked-kept d c (Keeps-grown d c g) new h
 
 -- ---- VALID
 
-along-grown : (d c : Complex) → Extends c.edges d.edges → (ps : List (CornerRec × (VertName × VertName))) → list_all (is_along_side c.edges) ps ≡ true → list_all (is_along_side d.edges) ps ≡ true
+along-grown : (d c : Complex) → Extends c.edges d.edges → (ps : List (CornerRec × (VertName × VertName)))
+    → list_all (is_along_side c.edges) ps ≡ true → list_all (is_along_side d.edges) ps ≡ true
 along-grown d c more [] h = refl
 along-grown d c more (p ∷ ps) h =
     let both = and_parts (is_along_side c.edges p) (list_all (is_along_side c.edges) ps) h in
-    and_from (is_along_side d.edges p) (list_all (is_along_side d.edges) ps) (passes-Extends (joins p.1.0 p.1.1) c.edges d.edges more p.0.edge.0 both.0) (along-grown d c more ps both.1)
+    and_from (is_along_side d.edges p) (list_all (is_along_side d.edges) ps)
+    (passes-Extends (joins p.1.0 p.1.1) c.edges d.edges more p.0.edge.0 both.0) (along-grown d c more ps both.1)
 
 -- a polygon stays one where its edges stay
-pub IsPolygon-Extends : (d c : Complex) → Extends c.edges d.edges → (corners : List CornerRec) → IsPolygon c.edges corners → IsPolygon d.edges corners
-IsPolygon-Extends d c more corners r = record { least = r.least; most = r.most; distinct = r.distinct; closed = along-grown d c more (zip corners (sides (verts_of corners))) r.closed }
+pub IsPolygon-Extends : (d c : Complex) → Extends c.edges d.edges → (corners : List CornerRec)
+    → IsPolygon c.edges corners → IsPolygon d.edges corners
+IsPolygon-Extends d c more corners r =
+    record {
+      least = r.least;
+      most = r.most;
+      distinct = r.distinct;
+      closed =
+          along-grown d c more (zip corners (sides (verts_of corners))) r.closed;
+    }
 
-more_materials : (m n : ℕ) → m ≤ n → (x : ℤ) → (int_le (pos 0) x && int_le x (pos m)) ≡ true → (int_le (pos 0) x && int_le x (pos n)) ≡ true
+more_materials : (m n : ℕ) → m ≤ n → (x : ℤ) → (int_le (pos 0) x && int_le x (pos m)) ≡ true
+    → (int_le (pos 0) x && int_le x (pos n)) ≡ true
 more_materials m n le (pos k) h =
     let both = and_parts (int_le (pos 0) (pos k)) (int_le (pos k) (pos m)) h in
     let less = leb-true k m both.1 in
     and_from (int_le (pos 0) (pos k)) (int_le (pos k) (pos n)) both.0 (le-leb k n (omega arith))
 more_materials m n le (negsuc k) h = h
 
-material-grown : (d c : Complex) → length c.materials ≤ length d.materials → (o : Option ℤ) → allows (is_material c) o ≡ true → allows (is_material d) o ≡ true
+material-grown : (d c : Complex) → length c.materials ≤ length d.materials → (o : Option ℤ)
+    → allows (is_material c) o ≡ true → allows (is_material d) o ≡ true
 material-grown d c le None h = refl
 material-grown d c le (Some x) h = more_materials (length c.materials) (length d.materials) le x h
 
 -- a valid face stays valid where its polygon, the layers and the materials stay
-pub IsFaceValid-same : (d c : Complex) → d.layers ≡ c.layers → length c.materials ≤ length d.materials → (f : FaceRec) → IsPolygon d.edges f.corners → IsFaceValid c f → IsFaceValid d f
+pub IsFaceValid-same : (d c : Complex) → d.layers ≡ c.layers → length c.materials ≤ length d.materials → (f : FaceRec)
+    → IsPolygon d.edges f.corners → IsFaceValid c f → IsFaceValid d f
 IsFaceValid-same d c same le f polygon v = record {
   polygon = polygon;
   corners = v.corners;
   vals = v.vals;
-  material = material-grown d c le (number_in d.layers.faces material_layer f.vals) (ap (λ (ls : KindLayers). allows (is_material c) (number_in ls.faces material_layer f.vals)) same ∙ v.material);
+  material = material-grown d c le (number_in d.layers.faces material_layer f.vals)
+      (ap (λ (ls : KindLayers). allows (is_material c) (number_in ls.faces material_layer f.vals)) same ∙ v.material);
   smooth = ap (λ (ls : KindLayers). allows is_smooth (number_in ls.faces smooth_layer f.vals)) same ∙ v.smooth;
 }
 
@@ -132,7 +160,11 @@ IsValid-grown d c g links new h = record {
   linked = IsLinked-grown d c g links h.linked;
   verts = λ n r is. elim (new.verts n r is) [ inl old ↦ h.verts n r old | inr right ↦ right ];
   edges = λ n e is. elim (new.edges n e is) [ inl old ↦ h.edges n e old | inr right ↦ right ];
-  faces = λ n f is. elim (new.faces n f is) [ inl old ↦ IsFaceValid-same d c g.layers g.materials f (IsPolygon-Extends d c g.edges f.corners (h.faces n f old).polygon) (h.faces n f old) | inr right ↦ right ];
+  faces = λ n f is. elim (new.faces n f is) [
+    | inl old ↦ IsFaceValid-same d c g.layers g.materials f
+        (IsPolygon-Extends d c g.edges f.corners (h.faces n f old).polygon) (h.faces n f old)
+    | inr right ↦ right
+  ];
   limits = new.limits;
 }
 
@@ -140,9 +172,12 @@ IsValid-grown d c g links new h = record {
 
 pub IsSimple-grown : (d c : Complex) → AreNewSimple d c → IsSimple c → IsSimple d
 IsSimple-grown d c new h m n e f at_m at_n same = elim (new m n e f at_m at_n same) [
-  | inl old_m ↦ elim (new n m f e at_n at_m (sym (joins-symm e f) ∙ same)) [ inl old_n ↦ h m n e f old_m old_n same | inr is ↦ sym is ]
+  | inl old_m ↦ elim (new n m f e at_n at_m (sym (joins-symm e f) ∙ same))
+      [ inl old_n ↦ h m n e f old_m old_n same | inr is ↦ sym is ]
   | inr is ↦ is
 ]
 
-pub IsSound-grown : (d c : Complex) → IsGrown d c → AreNewLinked d c → AreNewValid d c → AreNewSimple d c → IsSound c → IsSound d
-IsSound-grown d c g links new simple h = record { valid = IsValid-grown d c g links new h.valid; simple = IsSimple-grown d c simple h.simple }
+pub IsSound-grown : (d c : Complex) → IsGrown d c → AreNewLinked d c → AreNewValid d c → AreNewSimple d c → IsSound c
+    → IsSound d
+IsSound-grown d c g links new simple h =
+    record { valid = IsValid-grown d c g links new h.valid; simple = IsSimple-grown d c simple h.simple }

@@ -1,7 +1,9 @@
 -- A face, an edge or a vertex killed with what stands on it: what is left is a part of the complex.
-use Rattle.std.proofs.Common.{◌≡◌, ◌≢◌, ℕ, Bool, true, false, not, eqb, ◌||◌, List, [], ◌∷◌, length, get_or, refl, sym, ap, ◌∙◌, inl, inr, Option, Some, None, is_some, ◌⊎◌}
+use Rattle.std.proofs.Common.{◌≡◌, ◌≢◌, ℕ, Bool, true, false, not, eqb, ◌||◌, List, [], ◌∷◌, length, get_or, refl, sym}
+use Rattle.std.proofs.Common.{ap, ◌∙◌, inl, inr, Option, Some, None, is_some, ◌⊎◌}
 use Rattle.std.specs.Cmp.{nat_eq_equiv}
-use Rattle.std.proofs.lemmas.Bool.{not-true, not_from_false, or_parts, or_cases, eq-eqb, eqb-true, both_ways, false_from_ne_true}
+use Rattle.std.proofs.lemmas.Bool.{not-true, not_from_false, or_parts, or_cases, eq-eqb, eqb-true, both_ways}
+use Rattle.std.proofs.lemmas.Bool.{false_from_ne_true}
 use Rattle.std.proofs.lemmas.List.Folds.{list_any_at}
 use Rattle.mesh_model.specs.Table.{at, IsThere, passes, allows, kept, erase, kept_names}
 use Rattle.mesh_model.specs.Complex.{Complex}
@@ -17,7 +19,8 @@ use Rattle.mesh_model.specs.declared.records.VertRec.{VertRec}
 use Rattle.mesh_model.specs.declared.records.EdgeRec.{EdgeRec}
 use Rattle.mesh_model.specs.declared.records.CornerRec.{CornerRec}
 use Rattle.mesh_model.specs.declared.records.FaceRec.{FaceRec}
-use Rattle.mesh_model.proofs.Tables.{stands, there_from, at-below, length-erase, at-erase_other, was-erased, length-kept, was-kept, still-kept, kept-same, erase-kept_names, kept_names-all}
+use Rattle.mesh_model.proofs.Tables.{stands, there_from, at-below, length-erase, at-erase_other, was-erased}
+use Rattle.mesh_model.proofs.Tables.{length-kept, was-kept, still-kept, kept-same, erase-kept_names, kept_names-all}
 use Rattle.mesh_model.proofs.Lists.{list_any-none, list_any-elim, list_all-All}
 use Rattle.mesh_model.proofs.NameSets.{same_tests}
 use Rattle.mesh_model.proofs.Edges.{same_vert_name, joins-cases, has_end-joins}
@@ -45,7 +48,8 @@ IsPart-without_face c f h = record {
   layers = refl;
   materials = refl;
   ends = λ n e is. let l = h.edges n e is in (l.a, l.b);
-  corners = λ n r is i d less. let l = (h.faces n r (was-erased c.faces f.0 n r is).0).corners i d less in record { vert = l.vert; edge = l.edge };
+  corners = λ n r is i d less. let l = (h.faces n r (was-erased c.faces f.0 n r is).0).corners i d less in
+      record { vert = l.vert; edge = l.edge };
 }
 
 pub IsLinked-without_face : (c : Complex) (f : FaceName) → IsLinked c → IsLinked (without_face c f)
@@ -76,7 +80,12 @@ IsPart-without_edge c e h =
           let was = was-kept spares c.faces n f is in
           let off = list_any-none (is_along e) f.corners (not-true (uses_edge e f) was.1) i d less in
           let l = (h.faces n f was.0).corners i d less in
-          record { vert = l.vert; edge = still_there c.edges e.0 (get_or f.corners i d).edge.0 (eqb_apart e.0 (get_or f.corners i d).edge.0 off) l.edge };
+          record {
+            vert = l.vert;
+            edge =
+                still_there c.edges e.0 (get_or f.corners i d).edge.0 (eqb_apart e.0 (get_or f.corners i d).edge.0 off)
+                l.edge;
+          };
     }
 
 pub IsLinked-without_edge : (c : Complex) (e : EdgeName) → IsLinked c → IsLinked (without_edge c e)
@@ -98,7 +107,8 @@ CanLoseVert c v = (n : ℕ) (f : FaceRec) → at c.faces n ≡ Some f → uses_v
 pub CanLoseVert-can_lose_vert : (c : Complex) (v : VertName) → can_lose_vert c v ≡ true → CanLoseVert c v
 CanLoseVert-can_lose_vert c v h n f is uses =
     let test : FaceRec → Bool = λ f. not (uses_vert v f) || uses_edge_at c v f in
-    let pass : allows test (at c.faces n) ≡ true = list_all-All (allows test) c.faces h n None (at-below c.faces n f is) in
+    let pass : allows test (at c.faces n) ≡ true =
+    list_all-All (allows test) c.faces h n None (at-below c.faces n f is) in
     elim (or_cases (not (uses_vert v f)) (uses_edge_at c v f) (ap (allows test) (sym is) ∙ pass)) [
       | inl off ↦ absurd (both_ways (uses_vert v f) (not-true (uses_vert v f) off) uses)
       | inr on ↦ on
@@ -120,20 +130,27 @@ IsPart-without_vert c v h can =
       ends = λ n e is.
           let was = was-kept spares_edge c.edges n e is in
           let off = or_parts (eqb e.a.0 v.0) (eqb e.b.0 v.0) (not-true (has_end v e) was.1) in
-          let l = h.edges n e was.0 in
-          (still_there c.verts v.0 e.a.0 (eqb_apart v.0 e.a.0 off.0) l.a, still_there c.verts v.0 e.b.0 (eqb_apart v.0 e.b.0 off.1) l.b);
+          let l = h.edges n e was.0 in (
+            still_there c.verts v.0 e.a.0 (eqb_apart v.0 e.a.0 off.0) l.a,
+            still_there c.verts v.0 e.b.0 (eqb_apart v.0 e.b.0 off.1) l.b,
+          );
       corners = λ n f is i d less.
           let was = was-kept spares_face c.faces n f is in
           let no_edge = not-true (uses_edge_at c v f) was.1 in
-          let no_vert : uses_vert v f ≡ false = false_from_ne_true (uses_vert v f) (λ uses. both_ways (uses_edge_at c v f) no_edge (can n f was.0 uses)) in
+          let no_vert : uses_vert v f ≡ false =
+          false_from_ne_true (uses_vert v f) (λ uses. both_ways (uses_edge_at c v f) no_edge (can n f was.0 uses))
+          in
           let off = list_any-none (is_at v) f.corners no_vert i d less in
-          let ends = list_any-none (λ (k : CornerRec). passes (has_end v) (at c.edges k.edge.0)) f.corners no_edge i d less in
+          let ends = list_any-none (λ (k : CornerRec). passes (has_end v) (at c.edges k.edge.0))
+          f.corners no_edge i d less in
           let l = (h.faces n f was.0).corners i d less in
           let it = stands (at c.edges (get_or f.corners i d).edge.0) l.edge in
           record {
-            vert = still_there c.verts v.0 (get_or f.corners i d).vert.0 (eqb_apart v.0 (get_or f.corners i d).vert.0 off) l.vert;
+            vert = still_there c.verts v.0 (get_or f.corners i d).vert.0
+                (eqb_apart v.0 (get_or f.corners i d).vert.0 off) l.vert;
             edge = there_from (without_vert c v).edges (get_or f.corners i d).edge.0 it.0
-                (still-kept spares_edge c.edges (get_or f.corners i d).edge.0 it.0 it.1 (not_from_false (has_end v it.0) (ap (passes (has_end v)) (sym it.1) ∙ ends)));
+                (still-kept spares_edge c.edges (get_or f.corners i d).edge.0 it.0 it.1
+                (not_from_false (has_end v it.0) (ap (passes (has_end v)) (sym it.1) ∙ ends)));
           };
     }
 
@@ -141,14 +158,18 @@ pub IsLinked-without_vert : (c : Complex) (v : VertName) → CanLoseVert c v →
 IsLinked-without_vert c v can h = IsLinked-part (without_vert c v) c (IsPart-without_vert c v h can) h
 
 -- a corner of a closed polygon goes along an edge of its vertex
-uses_edge_there : (c : Complex) (v : VertName) (f : FaceRec) → is_closed c.edges f.corners ≡ true → uses_vert v f ≡ true → uses_edge_at c v f ≡ true
+uses_edge_there : (c : Complex) (v : VertName) (f : FaceRec) → is_closed c.edges f.corners ≡ true → uses_vert v f ≡ true
+    → uses_edge_at c v f ≡ true
 uses_edge_there c v f closed uses = list_any-elim (uses_edge_at c v f ≡ true) (is_at v) f.corners (λ i d less here.
-    let at_v : (get_or f.corners i d).vert ≡ v = same_vert_name (get_or f.corners i d).vert v (eqb-true (get_or f.corners i d).vert.0 v.0 here) in
+    let at_v : (get_or f.corners i d).vert ≡ v =
+    same_vert_name (get_or f.corners i d).vert v (eqb-true (get_or f.corners i d).vert.0 v.0 here) in
     let along = closed-at c f.corners closed i d less in
     list_any_at (λ (k : CornerRec). passes (has_end v) (at c.edges k.edge.0)) f.corners i d less
-    (end_passes (get_or f.corners i d).vert (get_or f.corners (after (length f.corners) i) d).vert (at c.edges (get_or f.corners i d).edge.0) along at_v)) uses
+    (end_passes (get_or f.corners i d).vert (get_or f.corners (after (length f.corners) i) d).vert
+    (at c.edges (get_or f.corners i d).edge.0) along at_v)) uses
   where
-    end_passes : (u w : VertName) (o : Option EdgeRec) → passes (joins u w) o ≡ true → u ≡ v → passes (has_end v) o ≡ true
+    end_passes : (u w : VertName) (o : Option EdgeRec) → passes (joins u w) o ≡ true → u ≡ v
+        → passes (has_end v) o ≡ true
     end_passes u w None h same = absurd (cc)
     end_passes u w (Some e) h same = ap (λ (x : VertName). has_end x e) (sym same) ∙ has_end-joins u w e h
 
@@ -157,10 +178,13 @@ pub CanLoseVert-closed : (c : Complex) (v : VertName) → AreClosed c → CanLos
 CanLoseVert-closed c v closed n f is uses = uses_edge_there c v f (closed n f is) uses
 
 pub IsValid-without_vert : (c : Complex) (v : VertName) → IsValid c → IsValid (without_vert c v)
-IsValid-without_vert c v h = IsValid-part (without_vert c v) c (IsPart-without_vert c v h.linked (CanLoseVert-closed c v (AreClosed-valid c h))) h
+IsValid-without_vert c v h =
+    IsValid-part (without_vert c v) c (IsPart-without_vert c v h.linked (CanLoseVert-closed c v (AreClosed-valid c h)))
+    h
 
 pub IsSimple-without_vert : (c : Complex) (v : VertName) → IsSimple c → IsSimple (without_vert c v)
-IsSimple-without_vert c v h = IsSimple-part (without_vert c v) c (λ n e is. (was-kept (λ e. not (has_end v e)) c.edges n e is).0) h
+IsSimple-without_vert c v h =
+    IsSimple-part (without_vert c v) c (λ n e is. (was-kept (λ e. not (has_end v e)) c.edges n e is).0) h
 
 -- ---- ONE VERTEX, AND A LIST OF ONE
 
@@ -172,36 +196,57 @@ one_among v w = or_false (eqb v.0 w.0) ∙ nat_eq_equiv.symm v.0 w.0
     or_false false = refl
 
 -- a face along an edge of a vertex has a corner there
-uses_vert_there : (c : Complex) (v : VertName) (f : FaceRec) → is_closed c.edges f.corners ≡ true → uses_edge_at c v f ≡ true → has_corner_among (v ∷ []) f ≡ true
-uses_vert_there c v f closed uses = list_any-elim (has_corner_among (v ∷ []) f ≡ true) (λ (k : CornerRec). passes (has_end v) (at c.edges k.edge.0)) f.corners (λ i d less here.
+uses_vert_there : (c : Complex) (v : VertName) (f : FaceRec) → is_closed c.edges f.corners ≡ true
+    → uses_edge_at c v f ≡ true → has_corner_among (v ∷ []) f ≡ true
+uses_vert_there c v f closed uses =
+    list_any-elim (has_corner_among (v ∷ []) f ≡ true) (λ (k : CornerRec). passes (has_end v) (at c.edges k.edge.0))
+    f.corners (λ i d less here.
     let j = after (length f.corners) i in
     let below = after-below (length f.corners) i less in
     let along = closed-at c f.corners closed i d less in
-    elim (is_either (get_or f.corners i d).vert (get_or f.corners j d).vert (at c.edges (get_or f.corners i d).edge.0) along here) [
-      | inl own ↦ list_any_at (λ (k : CornerRec). is_among (v ∷ []) k.vert) f.corners i d less (one_among v (get_or f.corners i d).vert ∙ own)
-      | inr next ↦ list_any_at (λ (k : CornerRec). is_among (v ∷ []) k.vert) f.corners j d below (one_among v (get_or f.corners j d).vert ∙ next)
+    elim (is_either (get_or f.corners i d).vert (get_or f.corners j d).vert (at c.edges (get_or f.corners i d).edge.0)
+    along here) [
+      | inl own ↦ list_any_at (λ (k : CornerRec). is_among (v ∷ []) k.vert) f.corners i d less
+          (one_among v (get_or f.corners i d).vert ∙ own)
+      | inr next ↦ list_any_at (λ (k : CornerRec). is_among (v ∷ []) k.vert) f.corners j d below
+          (one_among v (get_or f.corners j d).vert ∙ next)
     ]) uses
   where
-    is_either : (u w : VertName) (o : Option EdgeRec) → passes (joins u w) o ≡ true → passes (has_end v) o ≡ true → (eqb u.0 v.0 ≡ true) ⊎ (eqb w.0 v.0 ≡ true)
+    is_either : (u w : VertName) (o : Option EdgeRec) → passes (joins u w) o ≡ true → passes (has_end v) o ≡ true
+        → (eqb u.0 v.0 ≡ true) ⊎ (eqb w.0 v.0 ≡ true)
     is_either u w None h ends = absurd (cc)
     is_either u w (Some e) h ends = elim (joins-cases u w e h) [
-      | inl same ↦ elim (or_cases (eqb e.a.0 v.0) (eqb e.b.0 v.0) ends) [ inl a ↦ inl (ap (λ (x : VertName). eqb x.0 v.0) (sym same.0) ∙ a) | inr b ↦ inr (ap (λ (x : VertName). eqb x.0 v.0) (sym same.1) ∙ b) ]
-      | inr back ↦ elim (or_cases (eqb e.a.0 v.0) (eqb e.b.0 v.0) ends) [ inl a ↦ inr (ap (λ (x : VertName). eqb x.0 v.0) (sym back.0) ∙ a) | inr b ↦ inl (ap (λ (x : VertName). eqb x.0 v.0) (sym back.1) ∙ b) ]
+      | inl same ↦ elim (or_cases (eqb e.a.0 v.0) (eqb e.b.0 v.0) ends) [
+        | inl a ↦ inl (ap (λ (x : VertName). eqb x.0 v.0) (sym same.0)
+            ∙ a)
+        | inr b ↦ inr (ap (λ (x : VertName). eqb x.0 v.0) (sym same.1) ∙ b)
+      ]
+      | inr back ↦ elim (or_cases (eqb e.a.0 v.0) (eqb e.b.0 v.0) ends) [
+        | inl a ↦ inr (ap (λ (x : VertName). eqb x.0 v.0) (sym back.0)
+            ∙ a)
+        | inr b ↦ inl (ap (λ (x : VertName). eqb x.0 v.0) (sym back.1) ∙ b)
+      ]
     ]
 
 -- to kill a vertex is to delete the list of that vertex, where faces are closed polygons
-pub without_vert-without_verts : (c : Complex) (v : VertName) → AreClosed c → without_vert c v ≡ without_verts c (v ∷ [])
+pub without_vert-without_verts : (c : Complex) (v : VertName) → AreClosed c
+    → without_vert c v ≡ without_verts c (v ∷ [])
 without_vert-without_verts c v closed = rw (verts, edges, faces) refl
   where
     verts : erase c.verts v.0 ≡ kept_names (λ n. not (is_among (v ∷ []) (record { 0 = n }))) c.verts
     verts = ap (λ (t : List (Option VertRec)). erase t v.0) (sym (kept_names-all (λ _. true) c.verts (λ n. refl)))
-        ∙ erase-kept_names (λ _. true) (λ n. not (is_among (v ∷ []) (record { 0 = n }))) v.0 c.verts (λ n. ap not (one_among v (record { 0 = n }) ∙ nat_eq_equiv.symm n v.0))
+        ∙ erase-kept_names (λ _. true) (λ n. not (is_among (v ∷ []) (record { 0 = n }))) v.0 c.verts
+        (λ n. ap not (one_among v (record { 0 = n }) ∙ nat_eq_equiv.symm n v.0))
 
     edges : kept (λ e. not (has_end v e)) c.edges ≡ kept (λ e. not (has_end_among (v ∷ []) e)) c.edges
-    edges = kept-same (λ e. not (has_end v e)) (λ e. not (has_end_among (v ∷ []) e)) c.edges (λ n e is. rw (one_among v e.a, one_among v e.b) refl)
+    edges = kept-same (λ e. not (has_end v e)) (λ e. not (has_end_among (v ∷ []) e)) c.edges
+        (λ n e is. rw (one_among v e.a, one_among v e.b) refl)
 
     faces : kept (λ f. not (uses_edge_at c v f)) c.faces ≡ kept (λ f. not (has_corner_among (v ∷ []) f)) c.faces
-    faces = kept-same (λ f. not (uses_edge_at c v f)) (λ f. not (has_corner_among (v ∷ []) f)) c.faces (λ n f is. ap not (same_tests (uses_edge_at c v f) (has_corner_among (v ∷ []) f)
+    faces = kept-same (λ f. not (uses_edge_at c v f)) (λ f. not (has_corner_among (v ∷ []) f)) c.faces
+        (λ n f is. ap not (same_tests (uses_edge_at c v f) (has_corner_among (v ∷ []) f)
         (uses_vert_there c v f (closed n f is))
-        (λ among. uses_edge_there c v f (closed n f is) (list_any-elim (uses_vert v f ≡ true) (λ (k : CornerRec). is_among (v ∷ []) k.vert) f.corners
-        (λ i d less here. list_any_at (is_at v) f.corners i d less (sym (one_among v (get_or f.corners i d).vert) ∙ here)) among))))
+        (λ among. uses_edge_there c v f (closed n f is)
+        (list_any-elim (uses_vert v f ≡ true) (λ (k : CornerRec). is_among (v ∷ []) k.vert) f.corners
+        (λ i d less here. list_any_at (is_at v) f.corners i d less (sym (one_among v (get_or f.corners i d).vert)
+        ∙ here)) among))))

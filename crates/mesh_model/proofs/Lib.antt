@@ -44,3 +44,15 @@ pub mod SeparateVerts
 pub mod SeparateCorners
 pub mod Mappings
 pub mod Polygons
+pub mod GivenRows
+pub mod GivenNumbers
+pub mod DueLayers
+pub mod Reading
+pub mod FlatTables
+pub mod FlatFaces
+pub mod Indexing
+pub mod MadePolygons
+pub mod Drafts
+pub mod WithPolygons
+pub mod Copies
+pub mod Parted

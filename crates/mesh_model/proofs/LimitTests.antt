@@ -7,7 +7,8 @@ use Rattle.mesh_model.specs.Valid.{IsWithinLimits}
 use Rattle.mesh_model.specs.declared.limits.TheConstants.{MAX_VERTS, MAX_EDGES, MAX_FACES, MAX_CORNERS}
 use Rattle.mesh_model.specs.declared.names.Kind.TheVariants.{Verts, Edges, Corners, Faces}
 
-not_passed : {X : Type 0} (b : Bool) (x : X) (rest : Option X) → cond b rest (Some x) ≡ None → (b ≡ true) × (rest ≡ None)
+not_passed : {X : Type 0} (b : Bool) (x : X) (rest : Option X) → cond b rest (Some x) ≡ None
+    → (b ≡ true) × (rest ≡ None)
 not_passed true x rest h = (refl, h)
 not_passed false x rest h = absurd (cc)
 
@@ -24,5 +25,10 @@ no_limit_passed c = (
         faces = leb-true (length c.faces) MAX_FACES faces.0;
         corners = leb-true (corner_sum c.faces) MAX_CORNERS corners.0;
       },
-  λ h. rw (le-leb (length c.verts) MAX_VERTS h.verts, le-leb (length c.edges) MAX_EDGES h.edges, le-leb (length c.faces) MAX_FACES h.faces, le-leb (corner_sum c.faces) MAX_CORNERS h.corners) refl,
+  λ h. rw (
+    le-leb (length c.verts) MAX_VERTS h.verts,
+    le-leb (length c.edges) MAX_EDGES h.edges,
+    le-leb (length c.faces) MAX_FACES h.faces,
+    le-leb (corner_sum c.faces) MAX_CORNERS h.corners,
+  ) refl,
 )

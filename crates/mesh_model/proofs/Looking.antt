@@ -1,5 +1,6 @@
 -- What look-ups find, and which names are new.
-use Rattle.std.proofs.Common.{◌≡◌, ◌≢◌, ℕ, ◌≤◌, true, false, eqb, List, [], ◌∷◌, length, refl, sym, ◌∙◌, arith, Option, Some, None, is_some}
+use Rattle.std.proofs.Common.{◌≡◌, ◌≢◌, ℕ, ◌≤◌, true, false, eqb, List, [], ◌∷◌, length, refl, sym, ◌∙◌, arith, Option}
+use Rattle.std.proofs.Common.{Some, None, is_some}
 use Rattle.std.specs.Option.{unwrap_or, option_map}
 use Rattle.std.specs.List.{All}
 use Rattle.std.proofs.lemmas.List.Elements.{All-head, All-tail}
@@ -36,7 +37,8 @@ pub next-new : {X : Type 0} (table : List (Option X)) (n : ℕ) → IsThere tabl
 next-new table n there same = let less = there-below table n there in absurd (omega arith)
 
 -- the next vertex is none of some that are there
-pub next_vert-out : (c : Complex) (ks : List CornerRec) → All (λ (k : CornerRec). IsThere c.verts k.vert.0) ks → is_among (verts_of ks) (next_vert c) ≡ false
+pub next_vert-out : (c : Complex) (ks : List CornerRec) → All (λ (k : CornerRec). IsThere c.verts k.vert.0) ks
+    → is_among (verts_of ks) (next_vert c) ≡ false
 next_vert-out c [] there = refl
 next_vert-out c (k ∷ ks) there =
     let P : CornerRec → Type 0 = λ x. IsThere c.verts x.vert.0 in
@@ -45,7 +47,8 @@ next_vert-out c (k ∷ ks) there =
     (next_vert-out c ks (All-tail P k ks there))
 
 -- what a change of all records leaves was a record, changed
-pub was-changed : {X : Type 0} (table : List (Option X)) (change : X → X) (n : ℕ) (x : X) → at (changed change table) n ≡ Some x → (y : X) × (at table n ≡ Some y) × (x ≡ change y)
+pub was-changed : {X : Type 0} (table : List (Option X)) (change : X → X) (n : ℕ) (x : X)
+    → at (changed change table) n ≡ Some x → (y : X) × (at table n ≡ Some y) × (x ≡ change y)
 was-changed {X = X} table change n x h = of_some (at table n) (sym (at-changed change table n) ∙ h)
   where
     of_some : (o : Option X) → option_map change o ≡ Some x → (y : X) × (o ≡ Some y) × (x ≡ change y)
@@ -53,11 +56,19 @@ was-changed {X = X} table change n x h = of_some (at table n) (sym (at-changed c
     of_some (Some y) is = (y, refl, cc)
 
 -- where no face gets more corners, there are no more
-pub corner_sum-changed_le : (change : FaceRec → FaceRec) (faces : List (Option FaceRec)) → ((f : FaceRec) → length (change f).corners ≤ length f.corners) → corner_sum (changed change faces) ≤ corner_sum faces
+pub corner_sum-changed_le : (change : FaceRec → FaceRec) (faces : List (Option FaceRec))
+    → ((f : FaceRec) → length (change f).corners ≤ length f.corners)
+    → corner_sum (changed change faces) ≤ corner_sum faces
 corner_sum-changed_le change [] fewer = omega arith
 corner_sum-changed_le change (o ∷ os) fewer =
     let size : Option FaceRec → ℕ = λ x. length (corners_of x) in
-    omega (arith, corner_sum-changed_le change os fewer, one o, sum_by-cons (λ (x : Option FaceRec). length (corners_of x)) (option_map change o) (changed change os), sum_by-cons (λ (x : Option FaceRec). length (corners_of x)) o os)
+    omega (
+      arith,
+      corner_sum-changed_le change os fewer,
+      one o,
+      sum_by-cons (λ (x : Option FaceRec). length (corners_of x)) (option_map change o) (changed change os),
+      sum_by-cons (λ (x : Option FaceRec). length (corners_of x)) o os,
+    )
   where
     one : (a : Option FaceRec) → length (corners_of (option_map change a)) ≤ length (corners_of a)
     one None = omega arith

@@ -1,5 +1,6 @@
 -- A part of a complex, with all that its records name, is linked, valid and simple.
-use Rattle.std.proofs.Common.{◌≡◌, ℕ, ◌≤◌, true, suc, List, [], ◌∷◌, length, refl, sym, ap, ◌∙◌, subst, arith, Option, Some, None}
+use Rattle.std.proofs.Common.{◌≡◌, ℕ, ◌≤◌, true, suc, List, [], ◌∷◌, length, refl, sym, ap, ◌∙◌, subst, arith, Option}
+use Rattle.std.proofs.Common.{Some, None}
 use Rattle.std.specs.List.{All, list_all, zip}
 use Rattle.std.proofs.lemmas.Bool.{and_parts, and_from}
 use Rattle.std.proofs.lemmas.List.Elements.{All-head, All-tail}
@@ -40,7 +41,10 @@ pub record IsPart (d c : Complex) : Type 0 where
 pub IsLinked-part : (d c : Complex) → IsPart d c → IsLinked c → IsLinked d
 IsLinked-part d c p h = record {
   layers = subst AreKindLayers (sym p.layers) h.layers;
-  verts = λ n r is. record { vals = (h.verts n r (p.verts n r is)).vals ∙ ap (λ (ls : KindLayers). total (layers_of ls Verts)) (sym p.layers) };
+  verts = λ n r is. record {
+    vals = (h.verts n r (p.verts n r is)).vals
+        ∙ ap (λ (ls : KindLayers). total (layers_of ls Verts)) (sym p.layers);
+  };
   edges = λ n e is. let was = h.edges n e (p.edges n e is) in let ends = p.ends n e is in record {
     a = ends.0;
     b = ends.1;
@@ -60,14 +64,18 @@ IsLinked-part d c p h = record {
 
 -- ---- VALID
 
-along-part : (d c : Complex) → Extends d.edges c.edges → (ks : List CornerRec) (ss : List (VertName × VertName)) → All (IsCornerThere d) ks → list_all (is_along_side c.edges) (zip ks ss) ≡ true → list_all (is_along_side d.edges) (zip ks ss) ≡ true
+along-part : (d c : Complex) → Extends d.edges c.edges → (ks : List CornerRec) (ss : List (VertName × VertName))
+    → All (IsCornerThere d) ks → list_all (is_along_side c.edges) (zip ks ss) ≡ true
+    → list_all (is_along_side d.edges) (zip ks ss) ≡ true
 along-part d c within [] ss there h = refl
 along-part d c within (k ∷ ks) [] there h = refl
 along-part d c within (k ∷ ks) (s ∷ ss) there h =
     let both = and_parts (is_along_side c.edges (k, s)) (list_all (is_along_side c.edges) (zip ks ss)) h in
     let it = stands (at d.edges k.edge.0) (All-head (IsCornerThere d) k ks there).edge in
-    let here : is_along_side d.edges (k, s) ≡ true = ap (passes (joins s.0 s.1)) (it.1 ∙ sym (within k.edge.0 it.0 it.1)) ∙ both.0 in
-    and_from (is_along_side d.edges (k, s)) (list_all (is_along_side d.edges) (zip ks ss)) here (along-part d c within ks ss (All-tail (IsCornerThere d) k ks there) both.1)
+    let here : is_along_side d.edges (k, s) ≡ true =
+    ap (passes (joins s.0 s.1)) (it.1 ∙ sym (within k.edge.0 it.0 it.1)) ∙ both.0 in
+    and_from (is_along_side d.edges (k, s)) (list_all (is_along_side d.edges) (zip ks ss)) here
+    (along-part d c within ks ss (All-tail (IsCornerThere d) k ks there) both.1)
 
 -- a part has no more corners
 pub corner_sum-within : (s t : List (Option FaceRec)) → length s ≡ length t → Extends s t → corner_sum s ≤ corner_sum t
@@ -75,9 +83,16 @@ corner_sum-within [] t long within = omega arith
 corner_sum-within (o ∷ os) [] long within = absurd (omega arith)
 corner_sum-within (o ∷ os) (p ∷ ps) long within =
     let size : Option FaceRec → ℕ = λ x. length (corners_of x) in
-    omega (arith, corner_sum-within os ps (omega arith) (λ n x is. within (suc n) x is), one o (λ x is. within 0 x is), sum_by-cons size o os, sum_by-cons size p ps)
+    omega (
+      arith,
+      corner_sum-within os ps (omega arith) (λ n x is. within (suc n) x is),
+      one o (λ x is. within 0 x is),
+      sum_by-cons size o os,
+      sum_by-cons size p ps,
+    )
   where
-    one : (a : Option FaceRec) → ((x : FaceRec) → a ≡ Some x → p ≡ Some x) → length (corners_of a) ≤ length (corners_of p)
+    one : (a : Option FaceRec) → ((x : FaceRec) → a ≡ Some x → p ≡ Some x)
+        → length (corners_of a) ≤ length (corners_of p)
     one None same = omega arith
     one (Some f) same = let is = same f refl in rw is (omega arith)
 
@@ -88,14 +103,22 @@ IsValid-part d c p h = record {
   edges = λ n e is. h.edges n e (p.edges n e is);
   faces = λ n f is.
       let was = h.faces n f (p.faces n f is) in
-      let closed = along-part d c p.edges f.corners (sides (verts_of f.corners)) (p.corners n f is) was.polygon.closed in
+      let closed = along-part d c p.edges f.corners (sides (verts_of f.corners)) (p.corners n f is)
+      was.polygon.closed in
       let few : length c.materials ≤ length d.materials = omega (arith, ap length p.materials) in
-      IsFaceValid-same d c p.layers few f (record { least = was.polygon.least; most = was.polygon.most; distinct = was.polygon.distinct; closed = closed }) was;
+      IsFaceValid-same d c p.layers few f (record {
+        least = was.polygon.least;
+        most = was.polygon.most;
+        distinct =
+            was.polygon.distinct;
+        closed = closed;
+      }) was;
   limits = record {
     verts = rw p.vert_names h.limits.verts;
     edges = rw p.edge_names h.limits.edges;
     faces = rw p.face_names h.limits.faces;
-    corners = let few = h.limits.corners in let less = corner_sum-within d.faces c.faces p.face_names p.faces in omega arith;
+    corners = let few = h.limits.corners in let less = corner_sum-within d.faces c.faces p.face_names p.faces in
+        omega arith;
   };
 }
 

@@ -34,11 +34,15 @@ zip-front {X = X} p x (y ∷ ys) = ap (λ (zs : List (X × X)). (x, p) ∷ zs) (
 turned-front : {X : Type 0} (x : X) (xs : List X) → turned (length xs) (x ∷ xs) ≡ last_of x xs ∷ front_of x xs
 turned-front {X = X} x xs =
     ap (turned (length xs)) (front-last x xs)
-    ∙ ap (λ (zs : List X). zs ++ take (length xs) (front_of x xs ++ last_of x xs ∷ [])) (drop_at (front_of x xs) (last_of x xs ∷ []) (length xs) (length-front x xs))
-    ∙ ap (λ (zs : List X). last_of x xs ∷ zs) (take_at (front_of x xs) (last_of x xs ∷ []) (length xs) (length-front x xs))
+    ∙ ap (λ (zs : List X). zs ++ take (length xs) (front_of x xs ++ last_of x xs ∷ []))
+    (drop_at (front_of x xs) (last_of x xs ∷ []) (length xs) (length-front x xs))
+    ∙ ap (λ (zs : List X). last_of x xs ∷ zs)
+    (take_at (front_of x xs) (last_of x xs ∷ []) (length xs) (length-front x xs))
 
 -- in a circle the last is before the first
-pub with_previous-cons : {X : Type 0} (x : X) (xs : List X) → with_previous (x ∷ xs) ≡ after_each (last_of x xs) (x ∷ xs)
+pub with_previous-cons : {X : Type 0} (x : X) (xs : List X)
+    → with_previous (x ∷ xs) ≡ after_each (last_of x xs) (x ∷ xs)
 with_previous-cons {X = X} x xs =
     let count : length (x ∷ xs) - 1 ≡ length xs = omega arith in
-    ap (λ (n : ℕ). zip (x ∷ xs) (turned n (x ∷ xs))) count ∙ ap (zip (x ∷ xs)) (turned-front x xs) ∙ zip-front (last_of x xs) x xs
+    ap (λ (n : ℕ). zip (x ∷ xs) (turned n (x ∷ xs))) count ∙ ap (zip (x ∷ xs)) (turned-front x xs)
+    ∙ zip-front (last_of x xs) x xs

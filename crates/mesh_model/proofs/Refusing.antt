@@ -1,5 +1,6 @@
 -- What a test tells that answers None: each of its conditions holds.
-use Rattle.std.proofs.Common.{◌≡◌, ℕ, ◌<◌, Bool, true, false, cond, ltb, leb, List, ◌∷◌, length, get_or, refl, sym, ap, ◌∙◌, arith, Option, Some, None}
+use Rattle.std.proofs.Common.{◌≡◌, ℕ, ◌<◌, Bool, true, false, cond, ltb, leb, List, ◌∷◌, length, get_or, refl, sym, ap}
+use Rattle.std.proofs.Common.{◌∙◌, arith, Option, Some, None}
 use Rattle.std.specs.Option.{option_map}
 use Rattle.std.specs.List.{position, position_or_len}
 use Rattle.std.proofs.lemmas.List.Sums.{fails_before_first}
@@ -8,7 +9,8 @@ use Rattle.mesh_model.specs.Table.{at, passes}
 use Rattle.mesh_model.specs.Complex.{Complex, has, counters_of}
 use Rattle.mesh_model.specs.Valid.{IsWithinLimits}
 use Rattle.mesh_model.specs.Lookups.{least_face}
-use Rattle.mesh_model.specs.Refusals.{first_of, unless, unless_at, refused_at, refused_of, unless_there, limit_passed, unless_too_many}
+use Rattle.mesh_model.specs.Refusals.{first_of, unless, unless_at, refused_at, refused_of, unless_there, limit_passed}
+use Rattle.mesh_model.specs.Refusals.{unless_too_many}
 use Rattle.mesh_model.specs.declared.limits.TheConstants.{MAX_VERTS, MAX_EDGES, MAX_FACES, MAX_CORNERS}
 use Rattle.mesh_model.specs.declared.names.Elem.{Elem}
 use Rattle.mesh_model.specs.declared.names.FaceName.{FaceName}
@@ -21,7 +23,8 @@ use Rattle.mesh_model.specs.declared.refusal.Why.TheVariants.{NoSuch, TooMany}
 use Rattle.mesh_model.proofs.Tables.{at-below}
 
 -- no condition refuses: not the first, and none of the others
-pub first_of-none : (o : Option Refusal) (os : List (Option Refusal)) → first_of (o ∷ os) ≡ None → (o ≡ None) × (first_of os ≡ None)
+pub first_of-none : (o : Option Refusal) (os : List (Option Refusal)) → first_of (o ∷ os) ≡ None
+    → (o ≡ None) × (first_of os ≡ None)
 first_of-none None os h = (refl, h)
 first_of-none (Some r) os h = absurd (cc)
 
@@ -49,15 +52,19 @@ no_place : {X : Type 0} (b : Bool) (x : X) → cond b (Some x) None ≡ None →
 no_place true x h = absurd (cc)
 no_place false x h = refl
 
-pub position-none : {X : Type 0} (p : X → Bool) (xs : List X) (k : ℕ) (d : X) → position p xs ≡ None → k < length xs → p (get_or xs k d) ≡ false
+pub position-none : {X : Type 0} (p : X → Bool) (xs : List X) (k : ℕ) (d : X) → position p xs ≡ None → k < length xs
+    → p (get_or xs k d) ≡ false
 position-none p xs k d h less =
-    let past = ltb-false (position_or_len p xs) (length xs) (no_place (ltb (position_or_len p xs) (length xs)) (position_or_len p xs) h) in
+    let past = ltb-false (position_or_len p xs) (length xs)
+    (no_place (ltb (position_or_len p xs) (length xs)) (position_or_len p xs) h) in
     fails_before_first p xs k d (omega arith)
 
 -- where no face is found, no face passes
-pub least_face-none : (test : FaceRec → Bool) (c : Complex) → least_face test c ≡ None → (n : ℕ) (f : FaceRec) → at c.faces n ≡ Some f → test f ≡ false
+pub least_face-none : (test : FaceRec → Bool) (c : Complex) → least_face test c ≡ None → (n : ℕ) (f : FaceRec)
+    → at c.faces n ≡ Some f → test f ≡ false
 least_face-none test c h n f is =
-    let nowhere = mapped-none (λ (k : ℕ). let g : FaceName = record { 0 = k } in g) (position (passes test) c.faces) h in
+    let nowhere = mapped-none (λ (k : ℕ). let g : FaceName = record { 0 = k } in
+    g) (position (passes test) c.faces) h in
     ap (passes test) (sym is) ∙ position-none (passes test) c.faces n None nowhere (at-below c.faces n f is)
 
 -- no limit is passed
@@ -72,8 +79,15 @@ refused_of-none why (Some kind) h = absurd (cc)
 pub limits-none : (c : Complex) → unless_too_many c ≡ None → IsWithinLimits c
 limits-none c h =
     let n = counters_of c in
-    let verts = below_limit (leb n.verts MAX_VERTS) _ Verts (refused_of-none TooMany (limit_passed (counters_of c)) h) in
+    let verts = below_limit (leb n.verts MAX_VERTS) _ Verts (refused_of-none TooMany (limit_passed (counters_of c)) h)
+    in
     let edges = below_limit (leb n.edges MAX_EDGES) _ Edges verts.1 in
     let faces = below_limit (leb n.faces MAX_FACES) _ Faces edges.1 in
     let corners = below_limit (leb n.corners MAX_CORNERS) _ Corners faces.1 in
-    record { verts = leb-true n.verts MAX_VERTS verts.0; edges = leb-true n.edges MAX_EDGES edges.0; faces = leb-true n.faces MAX_FACES faces.0; corners = leb-true n.corners MAX_CORNERS corners.0 }
+    record {
+      verts = leb-true n.verts MAX_VERTS verts.0;
+      edges = leb-true n.edges MAX_EDGES edges.0;
+      faces =
+          leb-true n.faces MAX_FACES faces.0;
+      corners = leb-true n.corners MAX_CORNERS corners.0;
+    }

@@ -1,5 +1,7 @@
 -- Corners turned over, position by position: they stay a polygon, and turned over twice they are as before.
-use Rattle.std.proofs.Common.{◌≡◌, ℕ, zero, suc, ◌+◌, ◌-◌, ◌<◌, ◌≤◌, nat_lt, List, [], ◌∷◌, ◌++◌, length, get_or, map, take, drop, reverse, refl, sym, ap, subst, ◌∙◌, inl, inr, arith, Option, Some, None, All, zip}
+use Rattle.std.proofs.Common.{◌≡◌, ℕ, zero, suc, ◌+◌, ◌-◌, ◌<◌, ◌≤◌, nat_lt, List, [], ◌∷◌, ◌++◌, length, get_or, map}
+use Rattle.std.proofs.Common.{take, drop, reverse, refl, sym, ap, subst, ◌∙◌, inl, inr, arith, Option, Some, None, All}
+use Rattle.std.proofs.Common.{zip}
 use Rattle.std.proofs.lemmas.List.{same_lists, length-map, get_or-map, length-reverse, get_or-reverse}
 use Rattle.std.proofs.lemmas.Slice.Zip.{get_or-zip, length-zip}
 use Rattle.std.proofs.lemmas.Bool.{cases_lt, cond-true, cond-false, lt-ltb, le-ltb}
@@ -14,7 +16,8 @@ use Rattle.mesh_model.specs.declared.names.EdgeName.{EdgeName}
 use Rattle.mesh_model.specs.declared.records.EdgeRec.{EdgeRec}
 use Rattle.mesh_model.specs.declared.records.CornerRec.{CornerRec}
 use Rattle.mesh_model.proofs.Edges.{joins-turned}
-use Rattle.mesh_model.proofs.Polygons.{after, after-below, closed-at, closed-from, distinct-at, distinct-from, IsClosedAt, AreApart}
+use Rattle.mesh_model.proofs.Polygons.{after, after-below, closed-at, closed-from, distinct-at, distinct-from}
+use Rattle.mesh_model.proofs.Polygons.{IsClosedAt, AreApart}
 
 -- where the corner at a position stood before
 abbrev pub back : ℕ → ℕ → ℕ
@@ -25,7 +28,8 @@ length-turned : (ks : List CornerRec) → length (take 1 ks ++ reverse (drop 1 k
 length-turned [] = refl
 length-turned (k ∷ ks) = ap (λ (n : ℕ). suc n) (length-reverse ks)
 
-get_or-turned : (ks : List CornerRec) (i : ℕ) (d : CornerRec) → i < length ks → get_or (take 1 ks ++ reverse (drop 1 ks)) i d ≡ get_or ks (back (length ks) i) d
+get_or-turned : (ks : List CornerRec) (i : ℕ) (d : CornerRec) → i < length ks
+    → get_or (take 1 ks ++ reverse (drop 1 ks)) i d ≡ get_or ks (back (length ks) i) d
 get_or-turned [] i d h = absurd (omega arith)
 get_or-turned (k ∷ ks) zero d h = refl
 get_or-turned (k ∷ ks) (suc i) d h =
@@ -35,12 +39,18 @@ get_or-turned (k ∷ ks) (suc i) d h =
 pub length-reversed : (ks : List CornerRec) → length (reversed ks) ≡ length ks
 length-reversed ks =
     let a = length-turned ks in
-    let b : length (reverse (map (λ (k : CornerRec). k.edge) ks)) ≡ length ks = length-reverse (map (λ (k : CornerRec). k.edge) ks) ∙ length-map ks (λ (k : CornerRec). k.edge) in
+    let b : length (reverse (map (λ (k : CornerRec). k.edge) ks)) ≡ length ks =
+    length-reverse (map (λ (k : CornerRec). k.edge) ks) ∙ length-map ks (λ (k : CornerRec). k.edge) in
     length-map (zip (take 1 ks ++ reverse (drop 1 ks)) (reverse (map (λ (k : CornerRec). k.edge) ks))) along
     ∙ omega (arith, length-zip (take 1 ks ++ reverse (drop 1 ks)) (reverse (map (λ (k : CornerRec). k.edge) ks)))
 
--- the corner at each position: the first stays, the others stand the other way round, and each has the edge of the corner that was before it
-pub get_or-reversed : (ks : List CornerRec) (i : ℕ) (d : CornerRec) → i < length ks → get_or (reversed ks) i d ≡ record (get_or ks (back (length ks) i) d) { edge = (get_or ks (length ks - 1 - i) d).edge }
+-- the corner at each position: the first stays, the others stand the other way round, and each has the edge of the
+-- corner that was before it
+pub get_or-reversed : (ks : List CornerRec) (i : ℕ) (d : CornerRec) → i < length ks
+    → get_or (reversed ks) i d ≡ record (get_or ks (back (length ks) i) d) {
+      edge =
+          (get_or ks (length ks - 1 - i) d).edge;
+    }
 get_or-reversed ks i d h =
     let edge : CornerRec → EdgeName = λ k. k.edge in
     let front = take 1 ks ++ reverse (drop 1 ks) in
@@ -52,7 +62,10 @@ get_or-reversed ks i d h =
     get_or-reverse (map edge ks) i d.edge (omega arith)
     ∙ ap (λ (n : ℕ). get_or (map edge ks) (n - 1 - i) d.edge) long_edges
     ∙ get_or-map edge ks (length ks - 1 - i) d d.edge (omega arith) in
-    get_or-map along (zip front (reverse (map edge ks))) i (d, d.edge) d (omega (arith, length-zip front (reverse (map edge ks))))
+    get_or-map along (zip front (reverse (map edge ks))) i (
+      d,
+      d.edge,
+    ) d (omega (arith, length-zip front (reverse (map edge ks))))
     ∙ ap along zipped
     ∙ rw (get_or-turned ks i d h, own) refl
 
@@ -70,13 +83,19 @@ back-back n (suc i) h = again (n - suc i) refl
 
 -- turned over twice
 pub reversed-reversed : (ks : List CornerRec) → reversed (reversed ks) ≡ ks
-reversed-reversed ks = same_lists (reversed (reversed ks)) ks (length-reversed (reversed ks) ∙ length-reversed ks) (λ i d less.
+reversed-reversed ks = same_lists (reversed (reversed ks)) ks (length-reversed (reversed ks)
+    ∙ length-reversed ks) (λ i d less.
     let long = length-reversed ks in
     let within : i < length ks = omega (arith, length-reversed (reversed ks)) in
     let n = length ks in
     get_or-reversed (reversed ks) i d (omega arith)
-    ∙ ap (λ (m : ℕ). let k : CornerRec = record (get_or (reversed ks) (back m i) d) { edge = (get_or (reversed ks) (m - 1 - i) d).edge } in k) long
-    ∙ rw (get_or-reversed ks (back (length ks) i) d (back-below (length ks) i within), get_or-reversed ks (length ks - 1 - i) d (omega arith), back-back (length ks) i within)
+    ∙ ap (λ (m : ℕ). let k : CornerRec =
+    record (get_or (reversed ks) (back m i) d) { edge = (get_or (reversed ks) (m - 1 - i) d).edge } in k) long
+    ∙ rw (
+      get_or-reversed ks (back (length ks) i) d (back-below (length ks) i within),
+      get_or-reversed ks (length ks - 1 - i) d (omega arith),
+      back-back (length ks) i within,
+    )
     (ap (λ (m : ℕ). let k : CornerRec = record (get_or ks i d) { edge = (get_or ks m d).edge } in k) (omega arith)))
 
 -- ---- THE RING
@@ -116,7 +135,8 @@ closed-reversed c ks closed i d less =
     let m = length ks - 1 - i in
     let was = closed (length ks - 1 - i) d (omega arith) in
     rw (long, here, next, back-is_after (length ks) i within, back-after (length ks) i within)
-    (passes-turned (get_or ks (after (length ks) (length ks - 1 - i)) d).vert (get_or ks (length ks - 1 - i) d).vert (at c.edges (get_or ks (length ks - 1 - i) d).edge.0) ∙ was)
+    (passes-turned (get_or ks (after (length ks) (length ks - 1 - i)) d).vert (get_or ks (length ks - 1 - i) d).vert
+    (at c.edges (get_or ks (length ks - 1 - i) d).edge.0) ∙ was)
 
 apart-reversed : (ks : List CornerRec) → AreApart (verts_of ks) → AreApart (verts_of (reversed ks))
 apart-reversed ks apart i j d l m same =
@@ -125,13 +145,16 @@ apart-reversed ks apart i j d l m same =
     let long : length (verts_of (reversed ks)) ≡ length ks = length-map (reversed ks) vert ∙ length-reversed ks in
     let long_old : length (verts_of ks) ≡ length ks = length-map ks vert in
     let long_new = length-reversed ks in
-    let was : (k : ℕ) → k < length ks → get_or (verts_of (reversed ks)) k d ≡ get_or (verts_of ks) (back (length ks) k) d =
-    λ k less. get_or-map vert (reversed ks) k dk d (omega arith) ∙ ap vert (get_or-reversed ks k dk less) ∙ sym (get_or-map vert ks (back (length ks) k) dk d (back-below (length ks) k less)) in
+    let was : (k : ℕ) → k < length ks
+    → get_or (verts_of (reversed ks)) k d ≡ get_or (verts_of ks) (back (length ks) k) d =
+    λ k less. get_or-map vert (reversed ks) k dk d (omega arith) ∙ ap vert (get_or-reversed ks k dk less)
+    ∙ sym (get_or-map vert ks (back (length ks) k) dk d (back-below (length ks) k less)) in
     let i_in : i < length ks = omega arith in
     let j_in : j < length ks = omega arith in
     let i_back : back (length ks) i < length ks = back-below (length ks) i i_in in
     let j_back : back (length ks) j < length ks = back-below (length ks) j j_in in
-    let one : back (length ks) i ≡ back (length ks) j = apart (back (length ks) i) (back (length ks) j) d (omega arith) (omega arith)
+    let one : back (length ks) i ≡ back (length ks) j =
+    apart (back (length ks) i) (back (length ks) j) d (omega arith) (omega arith)
     (ap (λ (v : VertName). v.0) (sym (was i i_in)) ∙ same ∙ ap (λ (v : VertName). v.0) (was j j_in)) in
     sym (back-back (length ks) i i_in) ∙ ap (back (length ks)) one ∙ back-back (length ks) j j_in
 
@@ -145,11 +168,14 @@ IsPolygon-reversed c ks r = record {
 }
 
 -- what holds of each corner whatever its edge, and of each edge, holds of those turned over
-pub All-reversed : (P : CornerRec → Type 0) (ks : List CornerRec) → ((i j : ℕ) (d : CornerRec) → i < length ks → j < length ks → P (record (get_or ks i d) { edge = (get_or ks j d).edge })) → All P (reversed ks)
+pub All-reversed : (P : CornerRec → Type 0) (ks : List CornerRec)
+    → ((i j : ℕ) (d : CornerRec) → i < length ks → j < length ks
+    → P (record (get_or ks i d) { edge = (get_or ks j d).edge })) → All P (reversed ks)
 All-reversed P ks h i d less =
     let long = length-reversed ks in
     let within : i < length ks = omega arith in
-    subst P (sym (get_or-reversed ks i d within)) (h (back (length ks) i) (length ks - 1 - i) d (back-below (length ks) i within) (omega arith))
+    subst P (sym (get_or-reversed ks i d within))
+    (h (back (length ks) i) (length ks - 1 - i) d (back-below (length ks) i within) (omega arith))
 
 -- ---- THE EXACT LIST
 
@@ -159,6 +185,9 @@ back-from n (suc t) h = refl
 
 pub turned_over : TurnedOver
 turned_over ks d some = (
-  get_or-reversed ks 0 d some ∙ ap (λ (m : ℕ). let k : CornerRec = record (get_or ks 0 d) { edge = (get_or ks m d).edge } in k) (omega arith),
-  λ t above less. get_or-reversed ks t d less ∙ rw (back-from (length ks) t above) (ap (λ (m : ℕ). let k : CornerRec = record (get_or ks (length ks - t) d) { edge = (get_or ks m d).edge } in k) (omega arith)),
+  get_or-reversed ks 0 d some
+      ∙ ap (λ (m : ℕ). let k : CornerRec = record (get_or ks 0 d) { edge = (get_or ks m d).edge } in k) (omega arith),
+  λ t above less. get_or-reversed ks t d less
+      ∙ rw (back-from (length ks) t above) (ap (λ (m : ℕ). let k : CornerRec =
+      record (get_or ks (length ks - t) d) { edge = (get_or ks m d).edge } in k) (omega arith)),
 )

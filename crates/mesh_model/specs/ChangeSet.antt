@@ -3,7 +3,8 @@ use Rattle.std.specs.Prelude.{◌≡◌, ◌≤◌, ℕ, ℤ, ◌==◌, Bool, �
 use Rattle.std.specs.Ordering.{int_eq}
 use lib.Pointwise.{pointwise}
 use Rattle.mesh_model.specs.Complex.{Complex}
-use Rattle.mesh_model.specs.ChangeSetNotes.{Notes, led_back, notes_between, joined_notes, opposite_notes, trimmed_notes, IsWhole}
+use Rattle.mesh_model.specs.ChangeSetNotes.{Notes, led_back, notes_between, joined_notes, opposite_notes, trimmed_notes}
+use Rattle.mesh_model.specs.ChangeSetNotes.{IsWhole}
 use Rattle.mesh_model.specs.declared.records.Point.{Point}
 use Rattle.mesh_model.specs.declared.records.VertRec.{VertRec}
 use Rattle.mesh_model.specs.declared.records.EdgeRec.{EdgeRec}
@@ -48,7 +49,8 @@ pub record ChangeSet : Type 0 where
   pub faces : Notes FaceRec
   pub next : NextNames
 
--- a note for each name whose records differ or that stands in one of the two only, and the next names of the earlier one
+-- a note for each name whose records differ or that stands in one of the two only, and the next names of the earlier
+-- one
 abbrev pub change_set : Complex → Complex → ChangeSet
 change_set before after = record {
   verts = notes_between same_vert before.verts after.verts;

@@ -38,7 +38,8 @@ map_of f count = from_entries (flat_map (λ n. entry_at n (f n)) (range_with_len
 
 -- the notes that lead from a later table back to an earlier one
 abbrev pub notes_between : {R : Type 0} → (R → R → Bool) → List (Option R) → List (Option R) → Notes R
-notes_between same before after = map_of (λ n. note_between same (at before n) (at after n)) (max (length before) (length after))
+notes_between same before after =
+    map_of (λ n. note_between same (at before n) (at after n)) (max (length before) (length after))
 
 -- a map with all these entries put in, the first one last
 abbrev pub put_all : {X : Type 0} → List (ℕ × X) → FinMap nat_cmp X → FinMap nat_cmp X

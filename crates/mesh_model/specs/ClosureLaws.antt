@@ -22,7 +22,8 @@ ClosureIsClosed = (c : Complex) (x : Elements) → closure c (closure c x) ≡ c
 
 -- a member's rank in a rising list is its position
 abbrev pub RankIsPosition : Type 0
-RankIsPosition = (members : List ℕ) (i : ℕ) → IsTrue (is_rising members) → i < length members → rank members (slice_index members i) ≡ i
+RankIsPosition = (members : List ℕ) (i : ℕ) → IsTrue (is_rising members) → i < length members
+    → rank members (slice_index members i) ≡ i
 
 -- no limit is passed where all hold
 abbrev pub NoLimitPassed : Type 0

@@ -1,4 +1,5 @@
--- The incidence complex: a table of records for each kind of element, the layers of their values, and two lists of names. The length of a table is the next name of its kind.
+-- The incidence complex: a table of records for each kind of element, the layers of their values, and two lists of
+-- names. The length of a table is the next name of its kind.
 use Rattle.std.specs.Prelude.{ℕ, Bool, List, [], ◌∷◌, length, map, is_some, codes}
 use Rattle.std.specs.declared.option.Option.{Option}
 use Rattle.std.specs.declared.option.Option.TheVariants.{None, Some}
@@ -93,4 +94,10 @@ corner_sum faces = sum_by (λ f. length (corners_of f)) faces
 
 -- the next names, and the number of live corners
 abbrev pub counters_of : Complex → Counters
-counters_of c = record { verts = length c.verts; edges = length c.edges; faces = length c.faces; corners = corner_sum c.faces }
+counters_of c = record {
+  verts = length c.verts;
+  edges = length c.edges;
+  faces = length c.faces;
+  corners =
+      corner_sum c.faces;
+}

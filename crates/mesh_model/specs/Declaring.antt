@@ -39,7 +39,8 @@ declaration_fault layers d = refusal_of (layers_of layers d.kind) d.name d.width
 -- the first fault of some declarations, each beside the layers before it
 abbrev pub first_declaration_fault : KindLayers → List LayerDecl → Option LayerFault
 first_declaration_fault layers [] = None
-first_declaration_fault layers (d ∷ ds) = option_or (declaration_fault layers d) (first_declaration_fault (with_layer_declared layers d) ds)
+first_declaration_fault layers (d ∷ ds) =
+    option_or (declaration_fault layers d) (first_declaration_fault (with_layer_declared layers d) ds)
 
 -- so many zeros behind the values of each corner of a face
 abbrev pub with_corner_zeros : ℕ → FaceRec → FaceRec

@@ -1,5 +1,7 @@
--- The Euler calls as changes of whole tables: split an edge by a vertex and join two edges, split a face by an edge and join two faces, reverse a face. Beside each stands its test, with the conditions in order.
-use Rattle.std.specs.Prelude.{ℕ, ℤ, pos, ◌+◌, ◌==◌, ◌-ℤ◌, min, max, nat_lt, nat_le, int_lt, int_le, Bool, not, ◌&&◌, ◌||◌, List, [], ◌∷◌, ◌++◌, length, take, drop, slice_index_or, slice_range, if◌then◌else◌}
+-- The Euler calls as changes of whole tables: split an edge by a vertex and join two edges, split a face by an edge and
+-- join two faces, reverse a face. Beside each stands its test, with the conditions in order.
+use Rattle.std.specs.Prelude.{ℕ, ℤ, pos, ◌+◌, ◌==◌, ◌-ℤ◌, min, max, nat_lt, nat_le, int_lt, int_le, Bool, not, ◌&&◌}
+use Rattle.std.specs.Prelude.{◌||◌, List, [], ◌∷◌, ◌++◌, length, take, drop, slice_index_or, slice_range, if◌then◌else◌}
 use Rattle.std.specs.declared.option.Option.{Option}
 use Rattle.std.specs.declared.option.Option.TheVariants.{Some}
 use Rattle.std.specs.Option.{option_map, unwrap_or}
@@ -11,7 +13,8 @@ use Rattle.mesh_model.specs.Incidence.{has_end, is_along, is_at, uses_edge, uses
 use Rattle.mesh_model.specs.Elements.{is_among}
 use Rattle.mesh_model.specs.Making.{edge_from_to}
 use Rattle.mesh_model.specs.Kernel.{reversed_face}
-use Rattle.mesh_model.specs.Lookups.{vert_rec, edge_rec, face_rec, no_corner, least_face, next_vert, next_edge, next_face, with_next}
+use Rattle.mesh_model.specs.Lookups.{vert_rec, edge_rec, face_rec, no_corner, least_face, next_vert, next_edge}
+use Rattle.mesh_model.specs.Lookups.{next_face, with_next}
 use Rattle.mesh_model.specs.Renaming.{renamed_vert, with_ends, along}
 use Rattle.mesh_model.specs.Refusals.{first_of, unless, unless_at, refused_at, unless_there, unless_too_many}
 use Rattle.mesh_model.specs.declared.limits.TheConstants.{MAX_SIDES}
@@ -25,7 +28,8 @@ use Rattle.mesh_model.specs.declared.records.EdgeRec.{EdgeRec}
 use Rattle.mesh_model.specs.declared.records.CornerRec.{CornerRec}
 use Rattle.mesh_model.specs.declared.records.FaceRec.{FaceRec}
 use Rattle.mesh_model.specs.declared.refusal.Refusal.{Refusal}
-use Rattle.mesh_model.specs.declared.refusal.Why.TheVariants.{BadValue, TooLong, Apart, Valence, Repeated, TooShort, Adjacent, NonManifold, Winding, Pinched}
+use Rattle.mesh_model.specs.declared.refusal.Why.TheVariants.{BadValue, TooLong, Apart, Valence, Repeated, TooShort}
+use Rattle.mesh_model.specs.declared.refusal.Why.TheVariants.{Adjacent, NonManifold, Winding, Pinched}
 
 -- ---- MIXING: what lies num / den of the way from one element to another
 
@@ -35,11 +39,13 @@ mixed_point p q num den = record { x = mix p.x q.x num den; y = mix p.y q.y num 
 
 -- between two vertices, each layer by its rule
 abbrev pub mixed_vert : Complex → VertRec → VertRec → ℤ → ℤ → VertRec
-mixed_vert c v w num den = record { point = mixed_point v.point w.point num den; vals = mix_row c.layers.verts v.vals w.vals num den }
+mixed_vert c v w num den =
+    record { point = mixed_point v.point w.point num den; vals = mix_row c.layers.verts v.vals w.vals num den }
 
 -- between a corner and the next one, at a vertex and along an edge
 abbrev pub mixed_corner : Complex → CornerRec × CornerRec → ℤ → ℤ → VertName → EdgeName → CornerRec
-mixed_corner c side num den v e = record { vert = v; edge = e; vals = mix_row c.layers.corners side.0.vals side.1.vals num den }
+mixed_corner c side num den v e =
+    record { vert = v; edge = e; vals = mix_row c.layers.corners side.0.vals side.1.vals num den }
 
 -- ---- POLYGONS
 
@@ -97,7 +103,8 @@ other_edge c v e = unwrap_or (find (λ (d : EdgeName). not (d.0 == e.0)) (edges_
 
 -- two sides in one: the corner at the vertex goes, and the one before it runs along the other edge
 abbrev pub joined_side : VertName → EdgeName → CornerRec × CornerRec → List CornerRec
-joined_side v other side = if is_at v side.0 then [] else if is_at v side.1 then along other side.0 ∷ [] else side.0 ∷ []
+joined_side v other side =
+    if is_at v side.0 then [] else if is_at v side.1 then along other side.0 ∷ [] else side.0 ∷ []
 
 -- the complex without an edge and its end, where the other edge at that end now leads to the far end
 abbrev pub join_edge : Complex → EdgeName → VertName → Complex
@@ -141,8 +148,11 @@ abbrev pub split_face_between : Complex → FaceName → ℕ → ℕ → Complex
 split_face_between c f i j =
     let r = face_rec c f in (
       record c {
-        edges = c.edges ++ Some (edge_from_to c (slice_index_or r.corners i no_corner).vert (slice_index_or r.corners j no_corner).vert) ∷ [];
-        faces = update c.faces f.0 (λ x. record x { corners = outer_part (next_edge c) i j x.corners }) ++ Some (record r { corners = inner_part (next_edge c) i j r.corners }) ∷ [];
+        edges = c.edges ++ Some
+            (edge_from_to c (slice_index_or r.corners i no_corner).vert (slice_index_or r.corners j no_corner).vert)
+            ∷ [];
+        faces = update c.faces f.0 (λ x. record x { corners = outer_part (next_edge c) i j x.corners })
+            ++ Some (record r { corners = inner_part (next_edge c) i j r.corners }) ∷ [];
       },
       (next_edge c, next_face c),
     )
@@ -183,7 +193,10 @@ with_first_vals vals (k ∷ ks) = record k { vals = vals } ∷ ks
 
 -- a face with the corners of another in the place of its corner along an edge
 abbrev pub fused : EdgeName → List CornerRec → FaceRec → FaceRec
-fused e others f = record f { corners = flat_map (λ k. if is_along e k then with_first_vals k.vals (round_from e others) else k ∷ []) f.corners }
+fused e others f = record f {
+  corners =
+      flat_map (λ k. if is_along e k then with_first_vals k.vals (round_from e others) else k ∷ []) f.corners;
+}
 
 -- the complex without a face and the edge that it shares with another, which takes its corners
 abbrev pub join_face : Complex → FaceName → FaceName → EdgeName → Complex
@@ -202,7 +215,8 @@ run_same_way e corners others = list_any (is_among (starts_along e corners)) (st
 
 -- two polygons have a vertex in common that is no end of an edge
 abbrev pub share_other_vert : EdgeRec → List CornerRec → List CornerRec → Bool
-share_other_vert e corners others = list_any (λ (k : CornerRec). is_among (verts_of corners) k.vert && not (has_end k.vert e)) others
+share_other_vert e corners others =
+    list_any (λ (k : CornerRec). is_among (verts_of corners) k.vert && not (has_end k.vert e)) others
 
 -- why two faces are not joined: the first condition that fails
 abbrev pub join_face_refusal : Complex → FaceName → FaceName → EdgeName → Option Refusal

@@ -50,7 +50,8 @@ with_edge_like c v w like = with_edge c (record { a = v; b = w; vals = edge_vals
 
 -- a face more on a polygon of vertices and edges, with an example's values, and zeros at its corners
 abbrev pub with_face_like : Complex → List (VertName × EdgeName) → Option FaceName → Complex
-with_face_like c polygon like = with_face c (record { corners = map (corner_from c) polygon; vals = face_vals_like c like })
+with_face_like c polygon like =
+    with_face c (record { corners = map (corner_from c) polygon; vals = face_vals_like c like })
 
 -- ---- KILLING
 
@@ -91,7 +92,8 @@ with_end c e side v = record c { edges = update c.edges e.0 (with_side side v) }
 
 -- a face's corners changed
 abbrev pub with_corners_by : Complex → FaceName → (List CornerRec → List CornerRec) → Complex
-with_corners_by c f change = record c { faces = update c.faces f.0 (λ (r : FaceRec). record r { corners = change r.corners }) }
+with_corners_by c f change =
+    record c { faces = update c.faces f.0 (λ (r : FaceRec). record r { corners = change r.corners }) }
 
 -- a face's corners replaced
 abbrev pub with_corners : Complex → FaceName → List CornerRec → Complex
@@ -111,7 +113,8 @@ along k = record k.0 { edge = k.1 }
 
 -- corners in the other order: the first stays first, and each goes along the edge that led to it
 abbrev pub reversed : List CornerRec → List CornerRec
-reversed corners = map along (zip (take 1 corners ++ reverse (drop 1 corners)) (reverse (map (λ (k : CornerRec). k.edge) corners)))
+reversed corners = map along
+    (zip (take 1 corners ++ reverse (drop 1 corners)) (reverse (map (λ (k : CornerRec). k.edge) corners)))
 
 -- a face turned over
 abbrev pub reversed_face : Complex → FaceName → Complex
@@ -141,4 +144,5 @@ changed_at xs i change = take i xs ++ map change (take 1 (drop i xs)) ++ drop 1 
 
 -- the row of values of a face's corner replaced
 abbrev pub with_corner_vals : Complex → FaceName → ℕ → List ℤ → Complex
-with_corner_vals c f i vals = with_corners_by c f (λ corners. changed_at corners i (λ (k : CornerRec). record k { vals = vals }))
+with_corner_vals c f i vals =
+    with_corners_by c f (λ corners. changed_at corners i (λ (k : CornerRec). record k { vals = vals }))

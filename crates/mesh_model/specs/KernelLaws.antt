@@ -8,12 +8,19 @@ use Rattle.mesh_model.specs.declared.names.VertName.{VertName}
 use Rattle.mesh_model.specs.declared.names.FaceName.{FaceName}
 use Rattle.mesh_model.specs.declared.records.CornerRec.{CornerRec}
 
--- of corners turned over the first is the first, with the last one's edge; and each other one is as far from the end as it stood from the beginning, with the edge of the corner before it
+-- of corners turned over the first is the first, with the last one's edge; and each other one is as far from the end as
+-- it stood from the beginning, with the edge of the corner before it
 abbrev pub TurnedOver : Type 0
 TurnedOver = (corners : List CornerRec) (d : CornerRec) → 0 < length corners
-    → (slice_index_or (reversed corners) 0 d ≡ record (slice_index_or corners 0 d) { edge = (slice_index_or corners (length corners - 1) d).edge })
+    → (slice_index_or (reversed corners) 0 d ≡ record (slice_index_or corners 0 d) {
+      edge =
+          (slice_index_or corners (length corners - 1) d).edge;
+    })
     × ((t : ℕ) → 0 < t → t < length corners
-    → slice_index_or (reversed corners) t d ≡ record (slice_index_or corners (length corners - t) d) { edge = (slice_index_or corners (length corners - t - 1) d).edge })
+    → slice_index_or (reversed corners) t d ≡ record (slice_index_or corners (length corners - t) d) {
+      edge =
+          (slice_index_or corners (length corners - t - 1) d).edge;
+    })
 
 -- a face that is turned over twice is as before
 abbrev pub TurnedTwice : Type 0

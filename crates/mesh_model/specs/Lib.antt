@@ -7,6 +7,7 @@ pub mod Making
 pub mod Deleting
 pub mod Declaring
 pub mod Valid
+pub mod Room
 pub mod Tests
 pub mod Lookups
 pub mod Renaming
@@ -32,3 +33,9 @@ pub mod ChangeSetNotes
 pub mod ChangeSet
 pub mod ChangeSetLaws
 pub mod ChangeSetRows
+pub mod NameSet
+pub mod LayerRows
+pub mod Columns
+pub mod EdgeIndexes
+pub mod Draft
+pub mod Copying

@@ -58,7 +58,8 @@ edges_along c (s ∷ ss) =
 abbrev pub corner_of : (VertName × List ℤ) × EdgeName → CornerRec
 corner_of k = record { vert = k.0.0; edge = k.1; vals = k.0.1 }
 
--- the face on a polygon more, and the edges that it lacks: a corner for each vertex, with its values, and the face's values
+-- the face on a polygon more, and the edges that it lacks: a corner for each vertex, with its values, and the face's
+-- values
 abbrev pub with_polygon : Complex → List (VertName × List ℤ) → List ℤ → Complex
 with_polygon c corners vals =
     let made = edges_along c (sides (map (λ (k : VertName × List ℤ). k.0) corners)) in

@@ -53,20 +53,29 @@ told n = record { vert = vert n; uv = pos 0 ∷ pos 0 ∷ [] }
 
 -- the model with these vertices, and then with faces on these polygons
 abbrev pub model : List VertRec → List (List ℕ) → Complex
-model points polygons = fold (λ c polygon. with_face_told c (map told polygon) (pos 0) (pos 0)) (fold with_vert new_model points) polygons
+model points polygons =
+    fold (λ c polygon. with_face_told c (map told polygon) (pos 0) (pos 0)) (fold with_vert new_model points) polygons
 
 -- a square of side 4
 abbrev pub square : Complex
-square = model (point (pos 0) (pos 0) ∷ point (pos 4) (pos 0) ∷ point (pos 4) (pos 4) ∷ point (pos 0) (pos 4) ∷ []) ((0 ∷ 1 ∷ 2 ∷ 3 ∷ []) ∷ [])
+square = model (point (pos 0) (pos 0) ∷ point (pos 4) (pos 0) ∷ point (pos 4) (pos 4) ∷ point (pos 0) (pos 4) ∷ [])
+    ((0 ∷ 1 ∷ 2 ∷ 3 ∷ []) ∷ [])
 
 -- two squares side by side, which share the edge e1
 abbrev pub strip : Complex
-strip = model (point (pos 0) (pos 0) ∷ point (pos 4) (pos 0) ∷ point (pos 8) (pos 0) ∷ point (pos 0) (pos 4) ∷ point (pos 4) (pos 4) ∷ point (pos 8) (pos 4) ∷ []) ((0 ∷ 1 ∷ 4 ∷ 3 ∷ []) ∷ (1 ∷ 2 ∷ 5 ∷ 4 ∷ []) ∷ [])
+strip = model (point (pos 0) (pos 0) ∷ point (pos 4) (pos 0) ∷ point (pos 8) (pos 0) ∷ point (pos 0) (pos 4) ∷ point
+    (pos 4) (pos 4) ∷ point (pos 8) (pos 4) ∷ []) ((0 ∷ 1 ∷ 4 ∷ 3 ∷ []) ∷ (1 ∷ 2 ∷ 5 ∷ 4 ∷ []) ∷ [])
 
 -- three triangles on the edge e0
 abbrev pub fin : Complex
-fin = model (point (pos 0) (pos 0) ∷ record { point = record { x = pos 0; y = pos 0; z = pos 4 }; vals = [] } ∷ point (pos 4) (pos 0) ∷ point (pos 0) (pos 4) ∷ point (negsuc 3) (pos 0) ∷ []) ((0 ∷ 1 ∷ 2 ∷ []) ∷ (0 ∷ 1 ∷ 3 ∷ []) ∷ (0 ∷ 1 ∷ 4 ∷ []) ∷ [])
+fin = model (point (pos 0) (pos 0) ∷ record {
+  point = record { x = pos 0; y = pos 0; z = pos 4 };
+  vals =
+      [];
+} ∷ point (pos 4) (pos 0) ∷ point (pos 0) (pos 4) ∷ point (negsuc 3) (pos 0) ∷ [])
+    ((0 ∷ 1 ∷ 2 ∷ []) ∷ (0 ∷ 1 ∷ 3 ∷ []) ∷ (0 ∷ 1 ∷ 4 ∷ []) ∷ [])
 
 -- two triangles that share the vertex v0
 abbrev pub bow : Complex
-bow = model (point (pos 0) (pos 0) ∷ point (pos 4) (pos 0) ∷ point (pos 4) (pos 4) ∷ point (negsuc 3) (pos 0) ∷ point (negsuc 3) (negsuc 3) ∷ []) ((0 ∷ 1 ∷ 2 ∷ []) ∷ (0 ∷ 3 ∷ 4 ∷ []) ∷ [])
+bow = model (point (pos 0) (pos 0) ∷ point (pos 4) (pos 0) ∷ point (pos 4) (pos 4) ∷ point (negsuc 3) (pos 0) ∷ point
+    (negsuc 3) (negsuc 3) ∷ []) ((0 ∷ 1 ∷ 2 ∷ []) ∷ (0 ∷ 3 ∷ 4 ∷ []) ∷ [])

@@ -11,7 +11,8 @@ use Rattle.mesh_model.specs.declared.names.FaceName.{FaceName}
 abbrev pub rank : List ℕ → ℕ → ℕ
 rank members x = count_by (λ y. nat_lt y x) members
 
--- the name of the new element that stands for a member: the next name, plus an offset past the new elements of earlier groups, plus the member's rank
+-- the name of the new element that stands for a member: the next name, plus an offset past the new elements of earlier
+-- groups, plus the member's rank
 abbrev pub fresh : ℕ → ℕ → List ℕ → ℕ → ℕ
 fresh next offset members x = next + offset + rank members x
 
@@ -46,4 +47,5 @@ is_rising (n ∷ ns) = list_all (nat_lt n) ns && is_rising ns
 
 -- the names of each kind rise
 abbrev pub are_rising : Elements → Bool
-are_rising x = is_rising (vert_numbers x.verts) && (is_rising (edge_numbers x.edges) && is_rising (face_numbers x.faces))
+are_rising x = is_rising (vert_numbers x.verts)
+    && (is_rising (edge_numbers x.edges) && is_rising (face_numbers x.faces))

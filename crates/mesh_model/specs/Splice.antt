@@ -1,5 +1,7 @@
--- Splicing one vertex or edge into another, and separating a vertex, as renamings in records. Beside each change stands its test, with the conditions in order.
-use Rattle.std.specs.Prelude.{ℕ, ◌-◌, ◌==◌, nat_lt, Bool, not, ◌&&◌, List, [], ◌∷◌, ◌++◌, length, map, slice_index_or, slice_set, if◌then◌else◌}
+-- Splicing one vertex or edge into another, and separating a vertex, as renamings in records. Beside each change stands
+-- its test, with the conditions in order.
+use Rattle.std.specs.Prelude.{ℕ, ◌-◌, ◌==◌, nat_lt, Bool, not, ◌&&◌, List, [], ◌∷◌, ◌++◌, length, map, slice_index_or}
+use Rattle.std.specs.Prelude.{slice_set, if◌then◌else◌}
 use Rattle.std.specs.declared.option.Option.{Option}
 use Rattle.std.specs.declared.option.Option.TheVariants.{Some}
 use Rattle.std.specs.Option.{option_map}
@@ -8,8 +10,10 @@ use Rattle.mesh_model.specs.Table.{passes, erase, update, changed, changed_names
 use Rattle.mesh_model.specs.Complex.{Complex}
 use Rattle.mesh_model.specs.Incidence.{has_end, joins, is_at, uses_vert, edges_at, corners_at_edge, edge_joining}
 use Rattle.mesh_model.specs.Making.{with_edge}
-use Rattle.mesh_model.specs.Lookups.{vert_rec, edge_rec, face_rec, corner_rec, no_corner, least_face, next_vert, next_edge, with_previous}
-use Rattle.mesh_model.specs.Renaming.{renamed_vert, renamed_edge, with_ends, along, with_corner_verts, with_corner_edges}
+use Rattle.mesh_model.specs.Lookups.{vert_rec, edge_rec, face_rec, corner_rec, no_corner, least_face, next_vert}
+use Rattle.mesh_model.specs.Lookups.{next_edge, with_previous}
+use Rattle.mesh_model.specs.Renaming.{renamed_vert, renamed_edge, with_ends, along, with_corner_verts}
+use Rattle.mesh_model.specs.Renaming.{with_corner_edges}
 use Rattle.mesh_model.specs.Refusals.{first_of, unless, unless_at, refused_at, unless_there, unless_too_many}
 use Rattle.mesh_model.specs.declared.names.VertName.{VertName}
 use Rattle.mesh_model.specs.declared.names.EdgeName.{EdgeName}
@@ -19,7 +23,8 @@ use Rattle.mesh_model.specs.declared.records.EdgeRec.{EdgeRec}
 use Rattle.mesh_model.specs.declared.records.CornerRec.{CornerRec}
 use Rattle.mesh_model.specs.declared.records.FaceRec.{FaceRec}
 use Rattle.mesh_model.specs.declared.refusal.Refusal.{Refusal}
-use Rattle.mesh_model.specs.declared.refusal.Why.TheVariants.{Repeated, Exists, Pinched, Apart, BadValue, Valence, Empty}
+use Rattle.mesh_model.specs.declared.refusal.Why.TheVariants.{Repeated, Exists, Pinched, Apart, BadValue, Valence}
+use Rattle.mesh_model.specs.declared.refusal.Why.TheVariants.{Empty}
 
 -- ---- SPLICE A VERTEX
 
@@ -72,7 +77,8 @@ splice_edge_refusal c from to = first_of (
 abbrev pub is_shared : Complex → FaceName → EdgeName → Bool
 is_shared c f e = list_any (λ (k : FaceName × ℕ). not (k.0.0 == f.0)) (corners_at_edge c e)
 
--- an edge for a face that leads to one vertex in place of another: the edge itself where the face alone uses it, and else a copy
+-- an edge for a face that leads to one vertex in place of another: the edge itself where the face alone uses it, and
+-- else a copy
 abbrev pub separate_edge : Complex → FaceName → VertName → VertName → EdgeName → Complex × EdgeName
 separate_edge c f v w e =
     if is_shared c f e
@@ -91,7 +97,8 @@ edge_before c f i = (corner_rec c f (place_before (length (face_rec c f).corners
 abbrev pub with_corner_at : ℕ → VertName → EdgeName → EdgeName → List CornerRec → List CornerRec
 with_corner_at i w before after corners =
     let p = place_before (length corners) i in
-    slice_set (slice_set corners p (along before (slice_index_or corners p no_corner))) i (record (slice_index_or corners i no_corner) { vert = w; edge = after })
+    slice_set (slice_set corners p (along before (slice_index_or corners p no_corner))) i
+    (record (slice_index_or corners i no_corner) { vert = w; edge = after })
 
 -- the complex in which the corner of a face at a position has a new copy of its vertex, and the copy's name
 abbrev pub separate_corner : Complex → FaceName → ℕ → Complex × VertName
@@ -110,7 +117,8 @@ separate_corner c f i =
 -- a vertex has two edges alone, those of a face's corner, and no other face uses them
 abbrev pub is_separate : Complex → FaceName → ℕ → Bool
 is_separate c f i =
-    length (edges_at c (corner_rec c f i).vert) == 2 && (not (is_shared c f (edge_before c f i)) && not (is_shared c f (corner_rec c f i).edge))
+    length (edges_at c (corner_rec c f i).vert) == 2
+    && (not (is_shared c f (edge_before c f i)) && not (is_shared c f (corner_rec c f i).edge))
 
 -- why a corner is not separated: the first condition that fails
 abbrev pub separate_corner_refusal : Complex → FaceName → ℕ → Option Refusal
@@ -130,9 +138,13 @@ is_edge_among es e = list_any (λ (d : EdgeName). d.0 == e.0) es
 -- a corner at a vertex whose two edges are both among some edges, at another vertex
 abbrev pub separate_side : VertName → VertName → List EdgeName → CornerRec × CornerRec → CornerRec
 separate_side v w es side =
-    if is_at v side.0 && (is_edge_among es side.0.edge && is_edge_among es side.1.edge) then record side.0 { vert = w } else side.0
+    if is_at v side.0 && (is_edge_among es side.0.edge && is_edge_among es side.1.edge) then record side.0 {
+      vert =
+          w;
+    } else side.0
 
--- the complex in which these edges of a vertex, and the faces with two of them, have a new copy of it, and the copy's name
+-- the complex in which these edges of a vertex, and the faces with two of them, have a new copy of it, and the copy's
+-- name
 abbrev pub separate_vert : Complex → VertName → List EdgeName → Complex × VertName
 separate_vert c v es =
     let w = next_vert c in (
@@ -146,7 +158,9 @@ separate_vert c v es =
 
 -- the least of these edges that isn't at a vertex
 abbrev pub least_apart : Complex → VertName → List EdgeName → Option EdgeName
-least_apart c v es = option_map (λ n. record { 0 = n }) (position (λ e. is_edge_among es (record { 0 = e.0 }) && not (passes (has_end v) e.1)) (enumerate_from 0 c.edges))
+least_apart c v es =
+    option_map (λ n. record { 0 = n })
+    (position (λ e. is_edge_among es (record { 0 = e.0 }) && not (passes (has_end v) e.1)) (enumerate_from 0 c.edges))
 
 -- just one of two holds
 abbrev pub is_just_one : Bool → Bool → Bool
@@ -154,7 +168,8 @@ is_just_one x y = if x then not y else y
 
 -- a face has a corner at a vertex with just one of its two edges among some edges
 abbrev pub is_torn : VertName → List EdgeName → FaceRec → Bool
-is_torn v es f = list_any (λ (side : CornerRec × CornerRec). is_at v side.0 && is_just_one (is_edge_among es side.0.edge) (is_edge_among es side.1.edge)) (with_previous f.corners)
+is_torn v es f = list_any (λ (side : CornerRec × CornerRec). is_at v side.0
+    && is_just_one (is_edge_among es side.0.edge) (is_edge_among es side.1.edge)) (with_previous f.corners)
 
 -- why a vertex is not separated: the first condition that fails
 abbrev pub separate_vert_refusal : Complex → VertName → List EdgeName → Option Refusal

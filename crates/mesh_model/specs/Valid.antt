@@ -1,16 +1,17 @@
 -- When a complex is linked, valid and simple.
-use Rattle.std.specs.Prelude.{◌≡◌, ◌≢◌, ℕ, ℤ, pos, neg_ℤ, int_le, ◌<◌, ◌≤◌, Bool, true, false, not, ◌&&◌, IsTrue, List, [], ◌∷◌, length, zip}
+use Rattle.std.specs.Prelude.{◌≡◌, ◌≢◌, ℕ, ℤ, pos, neg_ℤ, int_le, ◌<◌, ◌≤◌, Bool, true, not, ◌&&◌, IsTrue, List, []}
+use Rattle.std.specs.Prelude.{◌∷◌, length, zip}
 use Rattle.std.specs.declared.option.Option.{Option}
 use Rattle.std.specs.declared.option.Option.TheVariants.{Some}
-use Rattle.std.specs.List.{All, AllPairs, list_all}
+use Rattle.std.specs.List.{All, list_all}
 use Rattle.cust_data.specs.Layers.{AreLayers}
-use Rattle.cust_data.specs.declared.rule.Rule.{Rule}
 use Rattle.mesh_model.specs.Table.{at, IsThere, Each, passes, allows}
-use Rattle.mesh_model.specs.Complex.{KindLayers, Complex, layers_of, width, corner_sum, verts_of, material_layer, smooth_layer}
+use Rattle.mesh_model.specs.Complex.{KindLayers, Complex, width, corner_sum, verts_of, material_layer, smooth_layer}
 use Rattle.mesh_model.specs.Values.{number_in}
 use Rattle.mesh_model.specs.Incidence.{joins, sides}
 use Rattle.mesh_model.specs.Elements.{is_among}
-use Rattle.mesh_model.specs.declared.limits.TheConstants.{MAX_VALUE, MAX_VERTS, MAX_EDGES, MAX_FACES, MAX_CORNERS, MIN_SIDES, MAX_SIDES}
+use Rattle.mesh_model.specs.declared.limits.TheConstants.{MAX_VALUE, MAX_VERTS, MAX_EDGES, MAX_FACES, MAX_CORNERS}
+use Rattle.mesh_model.specs.declared.limits.TheConstants.{MIN_SIDES, MAX_SIDES}
 use Rattle.mesh_model.specs.declared.names.Kind.TheVariants.{Verts, Edges, Corners, Faces}
 use Rattle.mesh_model.specs.declared.names.VertName.{VertName}
 use Rattle.mesh_model.specs.declared.records.Point.{Point}
@@ -135,7 +136,8 @@ pub record IsValid (c : Complex) : Type 0 where
 -- ---- SIMPLE: no two edges have the same two ends
 
 abbrev pub IsSimple : Complex → Type 0
-IsSimple c = (m n : ℕ) (d e : EdgeRec) → at c.edges m ≡ Some d → at c.edges n ≡ Some e → IsTrue (joins d.a d.b e) → m ≡ n
+IsSimple c = (m n : ℕ) (d e : EdgeRec) → at c.edges m ≡ Some d → at c.edges n ≡ Some e → IsTrue (joins d.a d.b e)
+    → m ≡ n
 
 -- a complex as a session keeps it: valid and simple
 pub record IsSound (c : Complex) : Type 0 where

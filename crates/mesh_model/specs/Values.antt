@@ -1,5 +1,6 @@
 -- Rows of values: the numbers that layers have in them, and rows in which some layers are given.
-use Rattle.std.specs.Prelude.{ℕ, ◌+◌, ℤ, pos, Bool, true, false, ◌&&◌, nat_eq, List, [], ◌∷◌, ◌++◌, length, take, drop, slice_get, slice_index_or}
+use Rattle.std.specs.Prelude.{ℕ, ◌+◌, ℤ, pos, Bool, true, false, ◌&&◌, nat_eq, List, [], ◌∷◌, ◌++◌, length, take, drop}
+use Rattle.std.specs.Prelude.{slice_get, slice_index_or}
 use Rattle.std.specs.declared.option.Option.{Option}
 use Rattle.std.specs.Option.{option_map, option_map_or}
 use Rattle.std.specs.List.{position, find, flat_map}
@@ -25,11 +26,13 @@ offset layers k = total (take k layers)
 
 -- the numbers of the k-th layer in a row
 abbrev pub numbers_at : List Layer → ℕ → List ℤ → List ℤ
-numbers_at layers k row = option_map_or (λ (l : Layer). take l.width (drop (offset layers k) row)) (slice_get layers k) []
+numbers_at layers k row =
+    option_map_or (λ (l : Layer). take l.width (drop (offset layers k) row)) (slice_get layers k) []
 
 -- a row with other numbers of the k-th layer
 abbrev pub with_numbers : List Layer → ℕ → List ℤ → List ℤ → List ℤ
-with_numbers layers k numbers row = take (offset layers k) row ++ (numbers ++ drop (offset layers k + length numbers) row)
+with_numbers layers k numbers row =
+    take (offset layers k) row ++ (numbers ++ drop (offset layers k + length numbers) row)
 
 -- the first number of a layer in a row, if a layer of this name, width and rule is there
 abbrev pub number_in : List Layer → Layer → List ℤ → Option ℤ
@@ -49,4 +52,5 @@ corner_vals c uv = row_given ((uv_layer, uv) ∷ []) c.layers.corners
 
 -- the values of a face of a material and a smoothing group
 abbrev pub face_vals : Complex → ℤ → ℤ → List ℤ
-face_vals c material smooth = row_given ((material_layer, material ∷ []) ∷ (smooth_layer, smooth ∷ []) ∷ []) c.layers.faces
+face_vals c material smooth =
+    row_given ((material_layer, material ∷ []) ∷ (smooth_layer, smooth ∷ []) ∷ []) c.layers.faces

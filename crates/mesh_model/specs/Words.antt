@@ -6,7 +6,11 @@ use Rattle.mesh_model.specs.declared.names.Elem.TheVariants.{Vert, Edge, Face}
 use Rattle.mesh_model.specs.declared.names.Kind.{Kind}
 use Rattle.mesh_model.specs.declared.names.Kind.TheVariants.{Verts, Edges, Corners, Faces}
 use Rattle.mesh_model.specs.declared.refusal.Why.{Why}
-use Rattle.mesh_model.specs.declared.refusal.Why.TheVariants.{NoSuch, NoSlot, WrongKind, Empty, Exists, Repeated, TooShort, TooLong, TooMany, OutOfGrid, Adjacent, NotInFace, Valence, NonManifold, Winding, NoRing, Uneven, Pinched, Chain, NothingToUndo, NothingToRedo, NoLayer, BadValue, Apart}
+use Rattle.mesh_model.specs.declared.refusal.Why.TheVariants.{NoSuch, NoSlot, WrongKind, Empty, Exists, Repeated}
+use Rattle.mesh_model.specs.declared.refusal.Why.TheVariants.{TooShort, TooLong, TooMany, OutOfGrid, Adjacent}
+use Rattle.mesh_model.specs.declared.refusal.Why.TheVariants.{NotInFace, Valence, NonManifold, Winding, NoRing, Uneven}
+use Rattle.mesh_model.specs.declared.refusal.Why.TheVariants.{Pinched, Chain, NothingToUndo, NothingToRedo, NoLayer}
+use Rattle.mesh_model.specs.declared.refusal.Why.TheVariants.{BadValue, Apart}
 
 -- an element is its kind's letter and its number
 abbrev pub elem_text : Elem → List ℕ

@@ -1,18 +1,32 @@
 //! Names, records, the incidence complex and a draft of one.
 #![tactic(auto)]
 
+mod copying;
 mod draft;
+mod draft_copies;
+mod draft_names;
+mod draft_polygons;
+mod draft_room;
+mod draft_rows;
+mod draft_shape;
+mod edge_columns;
+mod edge_index;
+mod face_columns;
 pub mod laws;
 mod layer_decl;
+mod layer_rows;
 pub mod limits;
+mod name_set;
 mod names;
 mod records;
 mod refusal;
 mod shape;
 pub mod slots;
+mod vert_columns;
 
 pub use cust_data::Rule;
-pub use draft::DraftCorner;
+pub use draft::{Draft, DraftCorner};
+pub use draft_room::is_in_range;
 pub use layer_decl::LayerDecl;
 pub use names::{EdgeName, Elem, FaceName, Kind, VertName};
 pub use records::{CornerRec, Corners, Counters, EdgeRec, FaceRec, Point, Vals, VertRec};

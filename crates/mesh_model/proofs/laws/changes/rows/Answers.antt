@@ -41,26 +41,36 @@ returns-clause-face c = (
   get-notes_between same_face square.faces textured.faces 0,
 )
 
-joined_to : {R : Type 0} (older newer : Notes R) (q : ℕ) (o p : Option (Option R)) → get older q ≡ o → get newer q ≡ p → get (joined_notes older newer) q ≡ first_of_two o p
+joined_to : {R : Type 0} (older newer : Notes R) (q : ℕ) (o p : Option (Option R)) → get older q ≡ o → get newer q ≡ p
+    → get (joined_notes older newer) q ≡ first_of_two o p
 joined_to older newer q o p a b = get-joined older newer q ∙ rw (a, b) refl
 
-trimmed_to : {R : Type 0} (same : R → R → Bool) (notes : Notes R) (now : List (Option R)) (q : ℕ) (o : Option (Option R)) → get notes q ≡ o → get (trimmed_notes same notes now) q ≡ note_if_changed same (at now q) o
+trimmed_to : {R : Type 0} (same : R → R
+    → Bool) (notes : Notes R) (now : List (Option R)) (q : ℕ) (o : Option (Option R)) → get notes q ≡ o
+    → get (trimmed_notes same notes now) q ≡ note_if_changed same (at now q) o
 trimmed_to same notes now q o a = get-trimmed_notes same notes now q ∙ rw a refl
 
-opposite_to : {R : Type 0} (notes : Notes R) (now : List (Option R)) (q : ℕ) (o : Option (Option R)) → get notes q ≡ o → get (opposite_notes notes now) q ≡ with_value o (Some (at now q))
+opposite_to : {R : Type 0} (notes : Notes R) (now : List (Option R)) (q : ℕ) (o : Option (Option R)) → get notes q ≡ o
+    → get (opposite_notes notes now) q ≡ with_value o (Some (at now q))
 opposite_to notes now q o a = get-renewed (λ n. at now n) notes q ∙ rw a refl
 
 made_and_killed : get (joined_notes (change_set square crossed).edges (change_set crossed killed).edges) 4 ≡ Some None
-made_and_killed = joined_to (change_set square crossed).edges (change_set crossed killed).edges 4 (Some None) (Some (Some (ends 0 2)))
-    (get-notes_between same_edge square.edges crossed.edges 4) (get-notes_between same_edge crossed.edges killed.edges 4)
+made_and_killed = joined_to (change_set square crossed).edges (change_set crossed killed).edges 4 (Some None)
+    (Some (Some (ends 0 2)))
+    (get-notes_between same_edge square.edges crossed.edges 4)
+    (get-notes_between same_edge crossed.edges killed.edges 4)
 
 pub returns-clause-joined : goal.returns-clause-joined
 returns-clause-joined c = (
   made_and_killed,
-  joined_to (change_set square crossed).verts (change_set crossed moved).verts 2 None (Some (Some (point (pos 4) (pos 4))))
-      (get-notes_between same_vert square.verts crossed.verts 2) (get-notes_between same_vert crossed.verts moved.verts 2),
-  trimmed_to same_edge (joined_notes (change_set square crossed).edges (change_set crossed killed).edges) killed.edges 4 (Some None) made_and_killed,
-  opposite_to (change_set square moved).verts moved.verts 2 (Some (Some (point (pos 4) (pos 4)))) (get-notes_between same_vert square.verts moved.verts 2),
+  joined_to (change_set square crossed).verts (change_set crossed moved).verts 2 None
+      (Some (Some (point (pos 4) (pos 4))))
+      (get-notes_between same_vert square.verts crossed.verts 2)
+      (get-notes_between same_vert crossed.verts moved.verts 2),
+  trimmed_to same_edge (joined_notes (change_set square crossed).edges (change_set crossed killed).edges) killed.edges 4
+      (Some None) made_and_killed,
+  opposite_to (change_set square moved).verts moved.verts 2 (Some (Some (point (pos 4) (pos 4))))
+      (get-notes_between same_vert square.verts moved.verts 2),
 )
 
 pub returns-clause-leads : goal.returns-clause-leads

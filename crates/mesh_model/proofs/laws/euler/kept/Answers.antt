@@ -14,13 +14,16 @@ pub returns-clause-twice : goal.returns-clause-twice
 returns-clause-twice c = loop_reverse-twice
 
 pub returns-clause-valid : goal.returns-clause-valid
-returns-clause-valid c = (IsValid-split_edge, IsValid-join_edge, IsValid-split_face, IsValid-join_face, IsValid-loop_reverse)
+returns-clause-valid c =
+    (IsValid-split_edge, IsValid-join_edge, IsValid-split_face, IsValid-join_face, IsValid-loop_reverse)
 
 pub returns-clause-sound : goal.returns-clause-sound
 returns-clause-sound c = (
   IsSound-split_edge,
-  (λ d e v test none h. IsSound-join_edge d e v test (JoinsNone-edge_joining d.edges (far_end v (edge_rec d e)) (far_end v (edge_rec d (other_edge d v e))) none) h),
-  (λ d f i j test none h. IsSound-split_face d f i j test (JoinsNone-edge_joining d.edges (corner_rec d f (min i j)).vert (corner_rec d f (max i j)).vert none) h),
+  (λ d e v test none h. IsSound-join_edge d e v test
+      (JoinsNone-edge_joining d.edges (far_end v (edge_rec d e)) (far_end v (edge_rec d (other_edge d v e))) none) h),
+  (λ d f i j test none h. IsSound-split_face d f i j test
+      (JoinsNone-edge_joining d.edges (corner_rec d f (min i j)).vert (corner_rec d f (max i j)).vert none) h),
   IsSound-join_face,
   IsSound-loop_reverse,
 )

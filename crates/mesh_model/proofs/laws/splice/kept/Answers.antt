@@ -5,4 +5,12 @@ use Rattle.mesh_model.proofs.SeparateVerts.{IsValid-separate_vert, IsSound-separ
 use Rattle.mesh_model.proofs.laws.splice.kept.Goals as goal
 
 pub returns : goal.returns
-returns c = (IsValid-splice_vert, IsValid-splice_edge, IsValid-separate_corner, IsValid-separate_vert, (λ d from to test. IsSimple-splice_edge d from to), IsSound-separate_corner, IsSound-separate_vert)
+returns c = (
+  IsValid-splice_vert,
+  IsValid-splice_edge,
+  IsValid-separate_corner,
+  IsValid-separate_vert,
+  (λ d from to test. IsSimple-splice_edge d from to),
+  IsSound-separate_corner,
+  IsSound-separate_vert,
+)

@@ -1,0 +1,49 @@
+use Rattle.std.proofs.Common.{◌≡◌, ◌∙◌, ◌<◌, ◌++◌, ◌∷◌, [], List, ℤ, length, take, sym, ap, refl, arith}
+use Rattle.std.proofs.lemmas.Int.{to_z-of_z}
+use Rattle.std.proofs.lemmas.List.{take_all}
+use Rattle.cust_data.specs.Layers.{Layer, total}
+use Rattle.mesh_model.specs.Complex.{material_layer, smooth_layer}
+use Rattle.mesh_model.specs.Values.{row_given, numbers_for}
+use Rattle.mesh_model.proofs.GivenRows.{AreGiven, given_two, length-row_given, row_given-more, total-take, layer-at}
+use Rattle.mesh_model.proofs.draft_rows.face_row.Goals as goal
+
+pub push_face_numbers-requires-clause-room : goal.push_face_numbers-requires-clause-room
+push_face_numbers-requires-clause-room c =
+    let given : List (Layer × List ℤ) =
+    ((material_layer, c.args.material ∷ []) ∷ (smooth_layer, c.args.smooth ∷ []) ∷ []) in
+    let are : AreGiven given =
+    given_two material_layer smooth_layer (c.args.material ∷ []) (c.args.smooth ∷ []) refl refl in
+    let layers = c.args.layers.now.layers in
+    let less : c.loop-k.k < length layers = omega arith in
+    let same : c.loop-k.row ≡ row_given given (take c.loop-k.k layers) =
+    simp (to_z-of_z, c.ranges.material, c.ranges.smooth) at c.loop-k.invariant in
+    let long : length c.loop-k.row ≡ total (take c.loop-k.k layers) = ap length same
+    ∙ length-row_given given (take c.loop-k.k layers) are in
+    let room = total-take layers c.loop-k.k less c.requires in
+    omega arith
+
+pub loop-k-preserved : goal.loop-k-preserved
+loop-k-preserved c =
+    let given : List (Layer × List ℤ) =
+    ((material_layer, c.args.material ∷ []) ∷ (smooth_layer, c.args.smooth ∷ []) ∷ []) in
+    let layers = c.args.layers.now.layers in
+    let less : c.loop-k.k < length layers = omega arith in
+    let same : c.loop-k.row ≡ row_given given (take c.loop-k.k layers) =
+    simp (to_z-of_z, c.ranges.material, c.ranges.smooth) at c.loop-k.invariant in
+    let l = layer-at layers c.loop-k.k less in
+    let pushed : c.push_face_numbers.new.row ≡ c.loop-k.row ++ numbers_for given l.0 =
+    simp (to_z-of_z, c.ranges.material, c.ranges.smooth) at (c.push_face_numbers.ensures l.0 l.1) in
+    simp (to_z-of_z, c.ranges.material, c.ranges.smooth) (pushed ∙ ap (λ (r : List ℤ). r ++ numbers_for given l.0) same
+    ∙ sym (row_given-more given layers c.loop-k.k l.0 less l.1))
+
+pub returns-clause-wide : goal.returns-clause-wide
+returns-clause-wide c =
+    let given : List (Layer × List ℤ) =
+    ((material_layer, c.args.material ∷ []) ∷ (smooth_layer, c.args.smooth ∷ []) ∷ []) in
+    let layers = c.args.layers.now.layers in
+    let same : c.loop-k.row ≡ row_given given (take c.loop-k.k layers) =
+    simp (to_z-of_z, c.ranges.material, c.ranges.smooth) at c.loop-k.invariant in
+    let whole : take c.loop-k.k layers ≡ layers = take_all c.loop-k.k layers (omega arith) in
+    ap length (same ∙ ap (row_given given) whole)
+    ∙ length-row_given given layers (given_two material_layer smooth_layer (c.args.material ∷ []) (c.args.smooth ∷ [])
+    refl refl)
