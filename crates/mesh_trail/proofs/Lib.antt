@@ -1,0 +1,15 @@
+pub mod Trees
+pub mod Growth
+pub mod Sorting
+pub mod Trims
+pub mod Least
+pub mod MapNotes
+pub mod Tables
+pub mod Rooms
+pub mod Copies
+pub mod CornerRows
+pub mod Counting
+pub mod Leading
+pub mod Differences
+pub mod Elements
+pub mod FaceNotes

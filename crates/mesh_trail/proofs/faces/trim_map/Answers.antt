@@ -1,0 +1,7 @@
+use Rattle.mesh_trail.proofs.faces.trim_map.Goals as goal
+
+pub trim_entries-requires-clause-within : goal.trim_entries-requires-clause-within
+trim_entries-requires-clause-within g c = rw (← c.map.view_is) at c.requires.within
+
+pub trim_entries-requires-clause-stored : goal.trim_entries-requires-clause-stored
+trim_entries-requires-clause-stored g c = rw (← c.map.view_is) at c.requires.stored

@@ -1,0 +1,5 @@
+pub mod Noted
+pub mod Tree
+pub mod Kept
+pub mod Pasts
+pub mod PastLaws
