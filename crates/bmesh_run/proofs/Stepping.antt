@@ -1,13 +1,15 @@
 -- One command more.
-use Rattle.std.proofs.Common.{◌≡◌, ℕ, zero, suc, ◌+◌, ◌<◌, ◌++◌, List, [], ◌∷◌, length, get_or, take, drop, sym, ap, ◌∙◌, arith, append_assoc}
+use Rattle.std.proofs.Common.{◌≡◌, ℕ, zero, suc, ◌+◌, ◌<◌, ◌++◌, List, [], ◌∷◌, length, get_or, take, drop, sym, ap}
+use Rattle.std.proofs.Common.{◌∙◌, arith, append_assoc}
 use Rattle.std.proofs.lemmas.List.{drop_more}
-use Rattle.plain_model.specs.declared.slots.Command.{Command}
+use Rattle.mesh_model.specs.declared.slots.Command.{Command}
 use Rattle.mesh_session.specs.State.{State}
 use Rattle.mesh_session.specs.Steps.{step, steps}
 use Rattle.mesh_session.specs.declared.reply.Reply.{Reply}
 
 -- the replies so far and those to the commands that are left, when one is given
-pub steps-more : (s next : State) (replies : List Reply) (reply : Reply) (cs : List Command) (i : ℕ) (c : Command) (all : List Reply × State) → i < length cs → get_or cs i c ≡ c → (reply, next) ≡ step s c
+pub steps-more : (s next : State) (replies : List Reply) (reply : Reply) (cs : List Command) (i : ℕ) (c : Command)
+    (all : List Reply × State) → i < length cs → get_or cs i c ≡ c → (reply, next) ≡ step s c
     → (replies ++ (steps s (drop i cs)).0, (steps s (drop i cs)).1) ≡ all
     → ((replies ++ reply ∷ []) ++ (steps next (drop (i + 1) cs)).0, (steps next (drop (i + 1) cs)).1) ≡ all
 steps-more s next replies reply cs i c all h at is told =
@@ -17,7 +19,8 @@ steps-more s next replies reply cs i c all h at is told =
     let reply_is : reply ≡ (step s c).0 = ap (λ (p : Reply × State). p.0) is in
     rw (append_assoc, next_is, reply_is) told'
 
-steps-take_more : (s : State) (cs : List Command) (i : ℕ) (c : Command) → i < length cs → get_or cs i c ≡ c → (steps s (take (i + 1) cs)).1 ≡ (step (steps s (take i cs)).1 c).1
+steps-take_more : (s : State) (cs : List Command) (i : ℕ) (c : Command) → i < length cs → get_or cs i c ≡ c
+    → (steps s (take (i + 1) cs)).1 ≡ (step (steps s (take i cs)).1 c).1
 steps-take_more s [] i c h at = absurd (omega arith)
 steps-take_more s (d ∷ cs) zero c h at = ap (λ (x : Command). (step s x).1) at
 steps-take_more s (d ∷ cs) (suc i) c h at =
@@ -25,6 +28,8 @@ steps-take_more s (d ∷ cs) (suc i) c h at =
     ap (λ (n : ℕ). (steps s (take n (d ∷ cs))).1) one ∙ steps-take_more (step s d).1 cs i c (omega arith) at
 
 -- the state after one command more
-pub way-more : (s now next : State) (reply : Reply) (cs : List Command) (i : ℕ) (c : Command) → i < length cs → get_or cs i c ≡ c → (reply, next) ≡ step now c → now ≡ (steps s (take i cs)).1 → next ≡ (steps s (take (i + 1) cs)).1
+pub way-more : (s now next : State) (reply : Reply) (cs : List Command) (i : ℕ) (c : Command) → i < length cs
+    → get_or cs i c ≡ c → (reply, next) ≡ step now c → now ≡ (steps s (take i cs)).1
+    → next ≡ (steps s (take (i + 1) cs)).1
 way-more s now next reply cs i c h at is way =
     ap (λ (p : Reply × State). p.1) is ∙ ap (λ (x : State). (step x c).1) way ∙ sym (steps-take_more s cs i c h at)

@@ -3,7 +3,7 @@ use Rattle.std.specs.Prelude.{ℕ, ◌≡◌, ◌⊎◌, ◌++◌, Bool, true, f
 use Rattle.std.specs.Option.{option_map}
 use Rattle.std.specs.declared.option.Option.{Option}
 use Rattle.std.specs.declared.option.Option.TheVariants.{None, Some}
-use Rattle.plain_model.specs.Complex.{Complex}
+use Rattle.mesh_model.specs.Complex.{Complex}
 use Rattle.mesh_session.specs.State.{State, fresh_state, first_state}
 use Rattle.mesh_session.specs.Steps.{steps}
 use Rattle.byte_sink.specs.Wrote.{with_after}
@@ -18,7 +18,8 @@ use Rattle.bmesh_run.specs.Job.{Job, is_grid, is_tour, model_starts, script_star
 use Rattle.bmesh_run.specs.Run.{Outcome, model_of, script_named, grid_refusal, usage_line, model_line, script_line}
 use Rattle.worlds.specs.declared.start.Start.{Start}
 use Rattle.bmesh_run.specs.declared.status.Status.{Status}
-use Rattle.bmesh_run.specs.declared.status.Status.TheVariants.{Done, SomeRefused, Usage, ModelRefused, ScriptRefused, InFault, OutFault, NoMemory}
+use Rattle.bmesh_run.specs.declared.status.Status.TheVariants.{Done, SomeRefused, Usage, ModelRefused, ScriptRefused}
+use Rattle.bmesh_run.specs.declared.status.Status.TheVariants.{InFault, OutFault, NoMemory}
 
 -- the number that the program exits with
 abbrev pub code_of : Status → ℕ
@@ -93,7 +94,8 @@ pub record MeetsAll (o : Outcome) (out : List ℕ) (old new : Told) : Type 0 whe
 
 -- a prefix of the text under OUT may have been made, and nothing was printed
 pub record MadePart (o : Outcome) (out : List ℕ) (old new : Told) : Type 0 where
-  pub made : (new.made ≡ old.made) ⊎ ((text : List ℕ) × (o.made ≡ Some text) × ((n : ℕ) × (new.made ≡ option_map (put out (take n text)) old.made)))
+  pub made : (new.made ≡ old.made)
+      ⊎ ((text : List ℕ) × (o.made ≡ Some text) × ((n : ℕ) × (new.made ≡ option_map (put out (take n text)) old.made)))
   pub printed : new.printed ≡ old.printed
 
 -- all of OUT was made and ended, and a prefix of the text to print was printed
@@ -124,7 +126,8 @@ pub record PrintsLine (line : List ℕ) (starts : List Start) (final : State) (o
   pub session : final ≡ fresh_state
   pub started : new.started ≡ old.started ++ starts
 
--- what each status says in every world, by the files of the model, of the script and of OUT: a refusal prints its line, and the
+-- what each status says in every world, by the files of the model, of the script and of OUT: a refusal prints its line,
+-- and the
 -- next file is asked for only once what was read is accepted
 abbrev pub EndsBy : List Start → List Start → List Start → Status → State → Told → Told → Type 0
 EndsBy model script out Done final old new = new.started ≡ old.started ++ (model ++ (script ++ out))
@@ -139,13 +142,15 @@ EndsBy model script out NoMemory final old new = AsksFor (model ++ (script ++ ou
 -- the same for the words of a command line
 abbrev pub EndsRunBy : Option Job → Status → State → Told → Told → Type 0
 EndsRunBy None status final old new = EndsBy [] [] [] status final old new
-EndsRunBy (Some job) status final old new = EndsBy (model_starts job.model) (script_starts job.script) (out_starts job.out) status final old new
+EndsRunBy (Some job) status final old new =
+    EndsBy (model_starts job.model) (script_starts job.script) (out_starts job.out) status final old new
 
 -- the state after the first so many commands of a script on a complex
 abbrev pub IsOnTheWay : Complex → Script → State → Type 0
 IsOnTheWay c s final = (n : ℕ) × (final ≡ (steps (first_state c) (take n s.commands)).1)
 
--- what an outcome says of a run: where the run ends with an answer, it is the outcome's, with the session and all that is made and
+-- what an outcome says of a run: where the run ends with an answer, it is the outcome's, with the session and all that
+-- is made and
 -- printed; where a fault ends it, a part was made and printed, and after a fault of output the session is the outcome's
 pub record Ends (o : Outcome) (out : List ℕ) (status : Status) (final : State) (old new : Told) : Type 0 where
   pub answer : is_answer status ≡ true → status ≡ o.status
@@ -162,7 +167,8 @@ pub record LeavesAll (final : State) (old new : Told) : Type 0 where
 
 -- the session is fresh, or some of the script's commands were given on the model's complex
 abbrev pub IsPartOf : Result Complex ObjRefusal → Result Script ScriptRefusal → State → Type 0
-IsPartOf model script final = (final ≡ fresh_state) ⊎ ((c : Complex) × (s : Script) × (model ≡ Ok c) × (script ≡ Ok s) × IsOnTheWay c s final)
+IsPartOf model script final =
+    (final ≡ fresh_state) ⊎ ((c : Complex) × (s : Script) × (model ≡ Ok c) × (script ≡ Ok s) × IsOnTheWay c s final)
 
 -- the same for the words of a command line
 abbrev pub IsPartOfRun : Option Job → Files → State → Type 0
@@ -176,7 +182,8 @@ IsRefusal refusal status = (status ≡ refusal) ⊎ (status ≡ OutFault) ⊎ (s
 -- words that are not accepted are answered by Usage, and a model that is made from a number is refused
 abbrev pub RefusesWords : Option Job → Status → Type 0
 RefusesWords None status = IsRefusal Usage status
-RefusesWords (Some job) status = (status ≡ Usage → ⊥) × (is_grid job.model ≡ true → IsRefusal (ModelRefused grid_refusal) status)
+RefusesWords (Some job) status =
+    (status ≡ Usage → ⊥) × (is_grid job.model ≡ true → IsRefusal (ModelRefused grid_refusal) status)
 
 -- a count rose in this run
 abbrev pub HasRisen : Told → Told → Type 0

@@ -21,7 +21,8 @@ is_file_word (b ∷ bs) = not (b == 45)
 -- three file names, then `--scale` and `0`
 abbrev pub job_of : List (List ℕ) → Option Job
 job_of (model ∷ script ∷ out ∷ key ∷ value ∷ []) =
-    if is_file_word model && (is_file_word script && (is_file_word out && (is_text (codes "--scale") key && is_text (codes "0") value)))
+    if is_file_word model
+    && (is_file_word script && (is_file_word out && (is_text (codes "--scale") key && is_text (codes "0") value)))
     then Some (record { model = model; script = script; out = out }) else None
 job_of _ = None
 

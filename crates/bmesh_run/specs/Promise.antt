@@ -2,7 +2,7 @@
 use Rattle.std.specs.Prelude.{ℕ, ◌≡◌, ◌⊎◌, ◌++◌, true, List, [], ◌∷◌, take, drop, Result, Ok, Err}
 use Rattle.std.specs.declared.option.Option.{Option}
 use Rattle.std.specs.declared.option.Option.TheVariants.{None, Some}
-use Rattle.plain_model.specs.Complex.{Complex}
+use Rattle.mesh_model.specs.Complex.{Complex}
 use Rattle.mesh_session.specs.State.{State, fresh_state, IsSoundState}
 use Rattle.byte_sink.specs.Wrote.{with_after}
 use Rattle.byte_sink.specs.Causes.{Rose}
@@ -15,9 +15,11 @@ use Rattle.worlds.specs.declared.start.Start.{Start}
 use Rattle.bmesh_run.specs.Job.{Job, job_of, starts_of, out_of, model_starts, script_starts, out_starts}
 use Rattle.bmesh_run.specs.Run.{model_of, script_named, model_most, script_most, with_model, due_by_model, due, outcome}
 use Rattle.bmesh_run.specs.Whole.{AsksFor, PrintsPart}
-use Rattle.bmesh_run.specs.Ends.{is_delivered, Ends, LeavesAll, Caused, EndsBy, EndsRunBy, IsPartOf, IsPartOfRun, RefusesWords, Completes}
+use Rattle.bmesh_run.specs.Ends.{is_delivered, Ends, LeavesAll, Caused, EndsBy, EndsRunBy, IsPartOf, IsPartOfRun}
+use Rattle.bmesh_run.specs.Ends.{RefusesWords, Completes}
 use Rattle.bmesh_run.specs.declared.status.Status.{Status}
-use Rattle.bmesh_run.specs.declared.status.Status.TheVariants.{Done, SomeRefused, Usage, ModelRefused, ScriptRefused, InFault, OutFault, NoMemory}
+use Rattle.bmesh_run.specs.declared.status.Status.TheVariants.{Done, SomeRefused, Usage, ModelRefused, ScriptRefused}
+use Rattle.bmesh_run.specs.declared.status.Status.TheVariants.{InFault, OutFault, NoMemory}
 
 -- what is left to read once so many bytes at most of these files were read, one after the other
 abbrev pub left_after : ℕ → List Start → Files → Option (List ℕ) → Option (List ℕ)
@@ -31,7 +33,8 @@ PrintsRefusal refusal line status old new =
     ⊎ ((status ≡ OutFault) × PrintsPart old new line × Rose old.out_faults new.out_faults)
     ⊎ ((status ≡ NoMemory) × PrintsPart old new line × (new.out_faults ≡ old.out_faults))
 
--- what is known of the inputs: the verdicts on the model and on the script, by the files that the world tells; the files that are
+-- what is known of the inputs: the verdicts on the model and on the script, by the files that the world tells; the
+-- files that are
 -- still to be read for them; and the name of the file to write
 pub record Task : Type 0 where
   pub model : Files → Result Complex ObjRefusal
@@ -42,11 +45,24 @@ pub record Task : Type 0 where
 
 -- accepted words: nothing is read yet
 abbrev pub named : Job → Task
-named job = record { model = model_of job.model; script = script_named job.script; models = model_starts job.model; scripts = script_starts job.script; out = job.out }
+named job = record {
+  model = model_of job.model;
+  script = script_named job.script;
+  models = model_starts job.model;
+  scripts = script_starts job.script;
+  out = job.out;
+}
 
 -- an accepted model: the script is to be read
 abbrev pub modelled : Complex → List ℕ → List ℕ → Task
-modelled c script out = record { model = λ _. Ok c; script = script_named script; models = []; scripts = script_starts script; out = out }
+modelled c script out = record {
+  model = λ _. Ok c;
+  script = script_named script;
+  models = [];
+  scripts =
+      script_starts script;
+  out = out;
+}
 
 -- an accepted model and script: nothing more is to be read
 abbrev pub scripted : Complex → Script → List ℕ → Task
@@ -73,11 +89,14 @@ LeavesRead t files NoMemory old new = Unit {0}
 
 -- what each level of a run promises
 pub record RunsAs (t : Task) (status : Status) (final : State) (old new : Told) : Type 0 where
-  pub ends : (files : Files) → old.files ≡ Some files → Ends (with_model (t.model files) (t.script files)) t.out status final old new
+  pub ends : (files : Files) → old.files ≡ Some files
+      → Ends (with_model (t.model files) (t.script files)) t.out status final old new
   pub in_fault : status ≡ InFault → LeavesAll final old new
-  pub no_memory : status ≡ NoMemory → (files : Files) → old.files ≡ Some files → IsPartOf (t.model files) (t.script files) final
+  pub no_memory : status ≡ NoMemory → (files : Files) → old.files ≡ Some files
+      → IsPartOf (t.model files) (t.script files) final
   pub cause : Caused status old new
-  pub due : (files : Files) → old.files ≡ Some files → AsksFor (due_by_model (t.model files) (t.script files) t.models t.scripts (out_starts t.out)) old new
+  pub due : (files : Files) → old.files ≡ Some files
+      → AsksFor (due_by_model (t.model files) (t.script files) t.models t.scripts (out_starts t.out)) old new
   pub by_status : EndsBy t.models t.scripts (out_starts t.out) status final old new
   pub read : (files : Files) → old.files ≡ Some files → LeavesRead t files status old new
   pub finished : is_delivered status ≡ true → new.begun ≡ None
@@ -91,7 +110,8 @@ LeavesRunRead (Some job) files status old new = LeavesRead (named job) files sta
 -- What a whole run promises.
 pub record IsRun (words : List (List ℕ)) (status : Status) (final : State) (old new : Told) : Type 0 where
   -- where the world tells its files, the run ends as the outcome of the words and the files
-  pub ends : (files : Files) → old.files ≡ Some files → Ends (outcome words files) (out_of (job_of words)) status final old new
+  pub ends : (files : Files) → old.files ≡ Some files
+      → Ends (outcome words files) (out_of (job_of words)) status final old new
   -- a fault of input leaves all as it was
   pub in_fault : status ≡ InFault → LeavesAll final old new
   -- after want of memory some of the commands were given

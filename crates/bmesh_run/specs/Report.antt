@@ -2,28 +2,36 @@
 use Rattle.std.specs.Prelude.{ℕ, ◌&&◌, Bool, true, false, is_some, codes, List, ◌++◌, length}
 use Rattle.std.specs.Fmt.{decimal}
 use Rattle.std.specs.List.{count_by, flat_map, zip, enumerate_from}
-use Rattle.plain_model.specs.Table.{live}
-use Rattle.plain_model.specs.Complex.{Complex, corner_sum}
-use Rattle.plain_model.specs.Incidence.{is_loose}
-use Rattle.plain_model.specs.Words.{elem_text, kind_text, why_text}
-use Rattle.plain_model.specs.declared.refusal.Refusal.{Refusal}
-use Rattle.plain_model.specs.declared.refusal.Place.{Place}
-use Rattle.plain_model.specs.declared.refusal.Place.TheVariants.{Nowhere, Elem, Kind}
-use Rattle.plain_model.specs.declared.slots.Slots.{Slots}
-use Rattle.plain_model.specs.declared.slots.Command.{Command}
+use Rattle.mesh_model.specs.Table.{live}
+use Rattle.mesh_model.specs.Complex.{Complex, corner_sum}
+use Rattle.mesh_model.specs.Incidence.{is_loose}
+use Rattle.mesh_model.specs.Words.{elem_text, kind_text, why_text}
+use Rattle.mesh_model.specs.declared.refusal.Refusal.{Refusal}
+use Rattle.mesh_model.specs.declared.refusal.Place.{Place}
+use Rattle.mesh_model.specs.declared.refusal.Place.TheVariants.{Nowhere, Elem, Kind}
+use Rattle.mesh_model.specs.declared.slots.Slots.{Slots}
+use Rattle.mesh_model.specs.declared.slots.Command.{Command}
 use Rattle.mesh_session.specs.State.{State}
 use Rattle.mesh_session.specs.declared.reply.Reply.{Reply}
 use Rattle.mesh_session.specs.declared.reply.Reply.TheVariants.{Done, Refused}
 
+-- the line of a done command that gives back so many elements
+abbrev pub count_line : ℕ → ℕ → ℕ → ℕ → List ℕ
+count_line line verts edges faces =
+    decimal line ++ (codes " done verts="
+    ++ (decimal verts ++ (codes " edges=" ++ (decimal edges ++ (codes " faces=" ++ (decimal faces ++ codes "\n"))))))
+
 -- the numbers of elements that a done command gives back
 abbrev pub done_line : ℕ → Slots → List ℕ
-done_line line slots = decimal line ++ (codes " done verts=" ++ (decimal (length slots.geom.verts) ++ (codes " edges=" ++ (decimal (length slots.geom.edges) ++ (codes " faces=" ++ (decimal (length slots.geom.faces) ++ codes "\n"))))))
+done_line line slots = count_line line (length slots.geom.verts) (length slots.geom.edges) (length slots.geom.faces)
 
 -- why a command is refused, and the element or the kind if there is one
 abbrev pub refused_line : ℕ → Refusal → Place → List ℕ
 refused_line line r Nowhere = decimal line ++ (codes " refused " ++ (why_text r.why ++ codes "\n"))
-refused_line line r (Elem x) = decimal line ++ (codes " refused " ++ (why_text r.why ++ (codes " " ++ (elem_text x ++ codes "\n"))))
-refused_line line r (Kind k) = decimal line ++ (codes " refused " ++ (why_text r.why ++ (codes " " ++ (kind_text k ++ codes "\n"))))
+refused_line line r (Elem x) =
+    decimal line ++ (codes " refused " ++ (why_text r.why ++ (codes " " ++ (elem_text x ++ codes "\n"))))
+refused_line line r (Kind k) =
+    decimal line ++ (codes " refused " ++ (why_text r.why ++ (codes " " ++ (kind_text k ++ codes "\n"))))
 
 -- the line of a command by its reply
 abbrev pub reply_line : ℕ → Reply → List ℕ
@@ -41,15 +49,23 @@ is_refused (Refused r) = true
 
 -- how many edges have no corner
 abbrev pub loose_count : Complex → ℕ
-loose_count c = count_by (λ e. is_some e.1 && is_loose c e.0) (enumerate_from 0 c.edges)
+loose_count c = count_by (λ e. is_some e.1 && is_loose c (record { 0 = e.0 })) (enumerate_from 0 c.edges)
 
 -- the numbers of live elements and of live corners
 abbrev pub element_counts : Complex → List ℕ
-element_counts c = codes "end verts=" ++ (decimal (live c.verts) ++ (codes " edges=" ++ (decimal (live c.edges) ++ (codes " faces=" ++ (decimal (live c.faces) ++ (codes " corners=" ++ decimal (corner_sum c.faces)))))))
+element_counts c = codes "end verts="
+    ++ (decimal (live c.verts)
+    ++ (codes " edges="
+    ++ (decimal (live c.edges)
+    ++ (codes " faces=" ++ (decimal (live c.faces) ++ (codes " corners=" ++ decimal (corner_sum c.faces)))))))
 
 -- the number of loose edges, that of refused commands, and the lengths of both lists
 abbrev pub command_counts : ℕ → State → List ℕ
-command_counts refused s = codes " loose=" ++ (decimal (loose_count s.now) ++ (codes " refused=" ++ (decimal refused ++ (codes " undo=" ++ (decimal (length s.undo) ++ (codes " redo=" ++ (decimal (length s.redo) ++ codes "\n")))))))
+command_counts refused s =
+    codes " loose=" ++ (decimal (loose_count s.now)
+    ++ (codes " refused="
+    ++ (decimal refused
+    ++ (codes " undo=" ++ (decimal (length s.undo) ++ (codes " redo=" ++ (decimal (length s.redo) ++ codes "\n")))))))
 
 -- the last line: all these numbers
 abbrev pub end_line : ℕ → State → List ℕ

@@ -1,9 +1,9 @@
 -- Command lines and whole runs over small files, worked out.
 use Rattle.std.specs.Prelude.{◌≡◌, ℕ, true, false, List, [], ◌∷◌, ◌++◌, codes}
 use Rattle.std.specs.declared.option.Option.TheVariants.{None, Some}
-use Rattle.plain_model.specs.Complex.{no_complex}
-use Rattle.plain_model.specs.Deleting.{without_verts}
-use Rattle.plain_model.specs.Rows.{square, vert}
+use Rattle.mesh_model.specs.Complex.{new_model}
+use Rattle.mesh_model.specs.Deleting.{without_verts}
+use Rattle.mesh_model.specs.Models.{square, vert}
 use Rattle.mesh_session.specs.State.{first_state}
 use Rattle.mesh_session.specs.Rows.{state_after}
 use Rattle.obj_text.specs.declared.obj_fault.ObjWhy.TheVariants as obj_why
@@ -27,7 +27,11 @@ plain_job = record { model = codes "model"; script = codes "script"; out = codes
 
 -- a model and a script
 abbrev pub files : List ℕ → List ℕ → Files
-files model script = record { name = codes "model"; bytes = model } ∷ record { name = codes "script"; bytes = script } ∷ []
+files model script = record { name = codes "model"; bytes = model } ∷ record {
+  name = codes "script";
+  bytes =
+      script;
+} ∷ []
 
 -- the text of the square
 abbrev pub square_text : List ℕ
@@ -55,7 +59,8 @@ abbrev pub SquareCut : Type 0
 SquareCut = outcome plain_words (files square_text (codes "delete geom=v0 context=verts\n")) ≡ record {
   status = Done;
   made = Some (codes "v 4 0 0\nv 4 4 0\nv 0 4 0\nl 1 2\nl 2 3\n");
-  printed = codes "1 done verts=0 edges=0 faces=0\nend verts=3 edges=2 faces=0 corners=0 loose=2 refused=0 undo=1 redo=0\n";
+  printed
+      = codes "1 done verts=0 edges=0 faces=0\nend verts=3 edges=2 faces=0 corners=0 loose=2 refused=0 undo=1 redo=0\n";
   session = state_after (without_verts square (vert 0 ∷ [])) (square ∷ []);
 }
 
@@ -65,7 +70,7 @@ NothingGiven = outcome plain_words (files [] []) ≡ record {
   status = Done;
   made = Some [];
   printed = codes "end verts=0 edges=0 faces=0 corners=0 loose=0 refused=0 undo=0 redo=0\n";
-  session = first_state no_complex;
+  session = first_state new_model;
 }
 
 -- a missing vertex is refused by name, and the model is written as it was
@@ -79,22 +84,29 @@ MissingVertex = outcome plain_words (files square_text (codes "delete geom=v9 co
 
 -- a line of another form refuses the model, whatever the script, and then the script
 abbrev pub InputsRefused : Type 0
-InputsRefused = (outcome plain_words (files (codes "v 0 0 0\nl 1 2\n") (codes "undo")) ≡ refuses (ModelRefused (record { line = 2; why = obj_why.NotYet })) (codes "model line 2: NotYet\n"))
-    × (outcome plain_words (files square_text (codes "undo")) ≡ refuses (ScriptRefused (record { line = 1; why = script_why.NotYet })) (codes "script line 1: NotYet\n"))
+InputsRefused = (outcome plain_words (files (codes "v 0 0 0\nl 1 2\n") (codes "undo"))
+    ≡ refuses (ModelRefused (record { line = 2; why = obj_why.NotYet })) (codes "model line 2: NotYet\n"))
+    × (outcome plain_words (files square_text (codes "undo"))
+    ≡ refuses (ScriptRefused (record { line = 1; why = script_why.NotYet })) (codes "script line 1: NotYet\n"))
 
 -- four words are refused, and so are a model made from a number and the program's own script
 abbrev pub WordsRefused : Type 0
-WordsRefused = (outcome (codes "model" ∷ codes "script" ∷ codes "out" ∷ codes "--scale" ∷ []) (files [] []) ≡ refuses Usage (codes "usage: bmesh MODEL SCRIPT OUT [--scale N]\n"))
-    × (outcome (words (codes "@grid:4") (codes "script") (codes "out")) (files [] []) ≡ refuses (ModelRefused (record { line = 0; why = obj_why.NotYet })) (codes "model line 0: NotYet\n"))
-    × (outcome (words (codes "model") (codes "@tour") (codes "out")) (files [] []) ≡ refuses (ScriptRefused (record { line = 0; why = script_why.NotYet })) (codes "script line 0: NotYet\n"))
+WordsRefused = (outcome (codes "model" ∷ codes "script" ∷ codes "out" ∷ codes "--scale" ∷ []) (files [] [])
+    ≡ refuses Usage (codes "usage: bmesh MODEL SCRIPT OUT [--scale N]\n"))
+    × (outcome (words (codes "@grid:4") (codes "script") (codes "out")) (files [] [])
+    ≡ refuses (ModelRefused (record { line = 0; why = obj_why.NotYet })) (codes "model line 0: NotYet\n"))
+    × (outcome (words (codes "model") (codes "@tour") (codes "out")) (files [] [])
+    ≡ refuses (ScriptRefused (record { line = 0; why = script_why.NotYet })) (codes "script line 0: NotYet\n"))
 
 -- of the names that begin with `@` all others are those of files
 abbrev pub NamesOfFiles : Type 0
-NamesOfFiles = (is_grid (codes "@grid:") ≡ true) × (is_grid (codes "@grid") ≡ false) × (is_tour (codes "@tour2") ≡ false) × (is_tour (codes "@tou") ≡ false)
+NamesOfFiles = (is_grid (codes "@grid:") ≡ true) × (is_grid (codes "@grid") ≡ false)
+    × (is_tour (codes "@tour2") ≡ false) × (is_tour (codes "@tou") ≡ false)
 
 -- SCRIPT is due only where the model is accepted, and OUT only where the script is
 abbrev pub FilesDue : Type 0
 FilesDue = (due (Some plain_job) (files (codes "q\n") []) ≡ model_starts (codes "model"))
     × (due (Some plain_job) (files [] (codes "undo")) ≡ model_starts (codes "model") ++ script_starts (codes "script"))
-    × (due (Some plain_job) (files [] []) ≡ model_starts (codes "model") ++ script_starts (codes "script") ++ out_starts (codes "out"))
+    × (due (Some plain_job) (files [] []) ≡ model_starts (codes "model") ++ script_starts (codes "script")
+    ++ out_starts (codes "out"))
     × (due (job_of []) (files [] []) ≡ [])

@@ -4,8 +4,8 @@ use Rattle.std.specs.Fmt.{decimal}
 use Rattle.std.specs.List.{list_any}
 use Rattle.std.specs.declared.option.Option.{Option}
 use Rattle.std.specs.declared.option.Option.TheVariants.{None, Some}
-use Rattle.plain_model.specs.Complex.{Complex}
-use Rattle.plain_model.specs.declared.slots.Command.{Command}
+use Rattle.mesh_model.specs.Complex.{Complex}
+use Rattle.mesh_model.specs.declared.slots.Command.{Command}
 use Rattle.mesh_session.specs.State.{State, fresh_state, first_state}
 use Rattle.mesh_session.specs.Steps.{steps}
 use Rattle.mesh_session.specs.declared.reply.Reply.{Reply}
@@ -36,7 +36,8 @@ model_of name files = if is_grid name then Err grid_refusal else read_text 0 (by
 
 -- the script of a name, or its first fault
 abbrev pub script_named : List ℕ → Files → Result Script ScriptRefusal
-script_named name files = if is_tour name then Err (record { line = 0; why = script_why.NotYet }) else script_of (bytes_of name files)
+script_named name files =
+    if is_tour name then Err (record { line = 0; why = script_why.NotYet }) else script_of (bytes_of name files)
 
 -- how many bytes of a model are read at most: one past the limit
 abbrev pub model_most : ℕ
@@ -103,14 +104,17 @@ due_by_script (Err r) script out = script
 due_by_script (Ok s) script out = script ++ out
 
 -- the files that are due: MODEL, and the others where the model is accepted
-abbrev pub due_by_model : Result Complex ObjRefusal → Result Script ScriptRefusal → List Start → List Start → List Start → List Start
+abbrev pub due_by_model : Result Complex ObjRefusal → Result Script ScriptRefusal → List Start → List Start → List Start
+    → List Start
 due_by_model (Err r) verdict model script out = model
 due_by_model (Ok c) verdict model script out = model ++ due_by_script verdict script out
 
 -- the files that are due for the words of a command line, by what the files have
 abbrev pub due : Option Job → Files → List Start
 due None files = []
-due (Some job) files = due_by_model (model_of job.model files) (script_named job.script files) (model_starts job.model) (script_starts job.script) (out_starts job.out)
+due (Some job) files =
+    due_by_model (model_of job.model files) (script_named job.script files) (model_starts job.model)
+    (script_starts job.script) (out_starts job.out)
 
 -- what a run gives
 abbrev pub outcome : List (List ℕ) → Files → Outcome

@@ -46,11 +46,13 @@ pub record IsUpTo (limit : ℕ) (bytes file : List ℕ) : Type 0 where
 
 -- the bytes are one past a limit at most, and where files are told, those of the named one
 abbrev pub IsWhole : Told → List ℕ → ℕ → List ℕ → Type 0
-IsWhole t name limit bytes = (length bytes ≤ limit + 1) × ((files : Files) → t.files ≡ Some files → IsUpTo limit bytes (bytes_of name files))
+IsWhole t name limit bytes = (length bytes ≤ limit + 1) × ((files : Files) → t.files ≡ Some files
+    → IsUpTo limit bytes (bytes_of name files))
 
 -- where files are told, all but the first so many bytes of the named one are left to read
 abbrev pub IsLeft : Told → Told → List ℕ → ℕ → Type 0
-IsLeft old new name taken = (files : Files) → old.files ≡ Some files → new.rest ≡ Some (drop taken (bytes_of name files))
+IsLeft old new name taken = (files : Files) → old.files ≡ Some files
+    → new.rest ≡ Some (drop taken (bytes_of name files))
 
 -- a read changes only what is left to read, what was asked for and the count of faults of input
 abbrev pub OnlyReads : Told → Told → Type 0
@@ -58,15 +60,23 @@ OnlyReads old new = new ≡ record old { rest = new.rest; started = new.started;
 
 -- a write changes only what was made, is begun and was asked for, and the count of faults of output
 abbrev pub OnlyWrites : Told → Told → Type 0
-OnlyWrites old new = new ≡ record old { made = new.made; begun = new.begun; started = new.started; out_faults = new.out_faults }
+OnlyWrites old new = new ≡ record old {
+  made = new.made;
+  begun = new.begun;
+  started = new.started;
+  out_faults =
+      new.out_faults;
+}
 
 -- what was made is as before, or has the name with a prefix of the bytes
 abbrev pub MakesPart : Told → Told → List ℕ → List ℕ → Type 0
-MakesPart old new name bytes = (new.made ≡ old.made) ⊎ ((n : ℕ) × (new.made ≡ option_map (put name (take n bytes)) old.made))
+MakesPart old new name bytes =
+    (new.made ≡ old.made) ⊎ ((n : ℕ) × (new.made ≡ option_map (put name (take n bytes)) old.made))
 
 -- a prefix of the bytes is printed, and only the count of faults of output may change besides
 abbrev pub PrintsPart : Told → Told → List ℕ → Type 0
-PrintsPart old new bytes = (n : ℕ) × (new ≡ record old { printed = with_after old.printed (take n bytes); out_faults = new.out_faults })
+PrintsPart old new bytes =
+    (n : ℕ) × (new ≡ record old { printed = with_after old.printed (take n bytes); out_faults = new.out_faults })
 
 -- a print changes only what was printed and the count of faults of output
 abbrev pub OnlyPrints : Told → Told → Type 0

@@ -18,7 +18,8 @@ pub struct Job<'a> {
 /// The names of the words after the program's: three that aren't empty and don't begin with a dash,
 /// then `--scale` and `0`. Other words are not accepted.
 pub fn job_of<'a>(words: &'a [String]) -> Option<Job<'a>>
-    ensures { option_map (λ j. record { model = j.model.now; script = j.script.now; out = j.out.now }) result ≡ job_of (map string_bytes words.now) }
+    ensures { option_map (λ j. record { model = j.model.now; script = j.script.now; out = j.out.now }) result
+        ≡ job_of (map string_bytes words.now) }
 {
     match words {
         [model, script, out, key, value] => {

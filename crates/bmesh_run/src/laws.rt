@@ -1,7 +1,8 @@
 //! Command lines and whole runs over small files, worked out. The checker proves each statement, and no
 //! call does anything.
 
-ghost use Rattle.bmesh_run.specs.Rows.{NamesRead, OtherWordsRefused, NamesOfFiles, SquareCut, NothingGiven, MissingVertex, InputsRefused, WordsRefused, FilesDue};
+ghost use Rattle.bmesh_run.specs.Rows.{NamesRead, OtherWordsRefused, NamesOfFiles, SquareCut, NothingGiven};
+ghost use Rattle.bmesh_run.specs.Rows.{MissingVertex, InputsRefused, WordsRefused, FilesDue};
 
 /// The words of command lines.
 pub fn words()

@@ -3,14 +3,15 @@
 ghost use Rattle.std.specs.Prelude.{◌≡◌, ◌⊎◌, [], true, None, Some, length, map, if◌then◌else◌};
 ghost use Rattle.std.specs.String.{string_bytes};
 ghost use Rattle.std.specs.List.{list_any};
-ghost use Rattle.plain_model.specs.Valid.{IsSound};
+ghost use Rattle.mesh_model.specs.Valid.{IsSound};
 ghost use Rattle.mesh_session.specs.State.{fresh_state, IsSoundState};
 ghost use Rattle.byte_sink.specs.Wrote.{with_after};
 ghost use Rattle.bmesh_run.specs.Job.{out_starts};
 ghost use Rattle.bmesh_run.specs.Run.{model_line, script_line, usage_line, concludes, delivers};
 ghost use Rattle.bmesh_run.specs.Report.{report, is_refused};
 ghost use Rattle.bmesh_run.specs.Whole.{PrintsPart};
-ghost use Rattle.bmesh_run.specs.Ends.{is_answer, is_delivered, is_past_model, is_past_script, Ends, Caused, EndsBy, IsOnTheWay, RefusesWords};
+ghost use Rattle.bmesh_run.specs.Ends.{is_answer, is_delivered, is_past_model, is_past_script, Ends, Caused, EndsBy};
+ghost use Rattle.bmesh_run.specs.Ends.{IsOnTheWay, RefusesWords};
 ghost use Rattle.bmesh_run.specs.Promise.{PrintsRefusal, named, modelled, RunsAs, IsRun};
 
 use crate::commands::run_commands;
@@ -20,10 +21,10 @@ use crate::status::Status;
 use crate::stop::Stop;
 use crate::write::report::{report, some_refused};
 use crate::write::whole_file::{print_all, write_file};
+use mesh_model::Draft;
+use mesh_model::slots::Command;
 use mesh_session::{Reply, Session};
 use obj_text::ObjRefusal;
-use plain_model::Draft;
-use plain_model::slots::Command;
 use script_text::{Script, ScriptRefusal};
 use std::alloc::Global;
 use worlds::{World, WorldFault};
@@ -55,9 +56,12 @@ pub fn run<W: World>(
 // With accepted words: reads the model.
 fn run_job<W: World>(alloc: Global, job: Job<'_>, session: &mut Session, world: &mut W) -> Status
     requires { session.old.state ≡ fresh_state }
-    ensures runs { RunsAs (named (record { model = job.entry.model.now; script = job.entry.script.now; out = job.entry.out.now })) result session.new.state
+    ensures runs { RunsAs
+        (named (record { model = job.entry.model.now; script = job.entry.script.now; out = job.entry.out.now }))
+        result session.new.state
         (W.told world.old) (W.told world.new) }
-    ensures usage { RefusesWords (Some (record { model = job.entry.model.now; script = job.entry.script.now; out = job.entry.out.now })) result }
+    ensures usage { RefusesWords
+        (Some (record { model = job.entry.model.now; script = job.entry.script.now; out = job.entry.out.now })) result }
 {
     match read_model(alloc, world, job.model) {
         Ok(draft) => run_model(alloc, &draft, job.script, job.out, session, world),
@@ -78,7 +82,8 @@ fn run_model<W: World>(
 ) -> Status
     requires fresh { session.old.state ≡ fresh_state }
     requires sound { IsSound draft.now }
-    ensures runs { RunsAs (modelled draft.now script.now out.now) result session.new.state (W.told world.old) (W.told world.new) }
+    ensures runs { RunsAs (modelled draft.now script.now out.now) result session.new.state (W.told world.old)
+        (W.told world.new) }
     ensures accepted { is_past_model result ≡ true }
 {
     match read_script(alloc, world, script) {
@@ -100,11 +105,14 @@ fn deliver<W: World>(
 ) -> Status
     requires fresh { session.old.state ≡ fresh_state }
     requires sound { IsSound draft.now }
-    ensures ends { Ends (delivers draft.now script.now) out.now result session.new.state (W.told world.old) (W.told world.new) }
-    ensures no_memory { result ≡ Status.NoMemory → (session.new.state ≡ fresh_state) ⊎ IsOnTheWay draft.now script.now session.new.state }
+    ensures ends { Ends (delivers draft.now script.now) out.now result session.new.state (W.told world.old)
+        (W.told world.new) }
+    ensures no_memory { result ≡ Status.NoMemory
+        → (session.new.state ≡ fresh_state) ⊎ IsOnTheWay draft.now script.now session.new.state }
     ensures goes_on { is_past_script result ≡ true }
     ensures cause { Caused result (W.told world.old) (W.told world.new) }
-    ensures by_status { EndsBy [] [] (out_starts out.now) result session.new.state (W.told world.old) (W.told world.new) }
+    ensures by_status { EndsBy [] [] (out_starts out.now) result session.new.state (W.told world.old)
+        (W.told world.new) }
     ensures rest { (W.told world.new).rest ≡ (W.told world.old).rest }
     ensures finished { is_delivered result ≡ true → (W.told world.new).begun ≡ None }
     ensures sound { IsSoundState session.new.state }
@@ -130,10 +138,12 @@ fn conclude<W: World>(
 ) -> Status
     requires sound { IsSoundState session.now.state }
     requires long { length replies.now ≡ length commands.now }
-    ensures ends { Ends (concludes commands.now replies.now session.now.state) out.now result session.now.state (W.told world.old) (W.told world.new) }
+    ensures ends { Ends (concludes commands.now replies.now session.now.state) out.now result session.now.state
+        (W.told world.old) (W.told world.new) }
     ensures goes_on { is_past_script result ≡ true }
     ensures cause { Caused result (W.told world.old) (W.told world.new) }
-    ensures by_status { EndsBy [] [] (out_starts out.now) result session.now.state (W.told world.old) (W.told world.new) }
+    ensures by_status { EndsBy [] [] (out_starts out.now) result session.now.state (W.told world.old)
+        (W.told world.new) }
     ensures rest { (W.told world.new).rest ≡ (W.told world.old).rest }
     ensures finished { is_delivered result ≡ true → (W.told world.new).begun ≡ None }
 {
@@ -154,8 +164,13 @@ fn print_report<W: World>(
 ) -> Status
     requires { length replies.now ≡ length commands.now }
     ensures status { is_answer result ≡ true → result ≡ (concludes commands.now replies.now session.now.state).status }
-    ensures all { is_answer result ≡ true → W.told world.new ≡ record (W.told world.old) { printed = with_after (W.told world.old).printed (report commands.now replies.now session.now.state) } }
-    ensures part { PrintsPart (W.told world.old) (W.told world.new) (report commands.now replies.now session.now.state) }
+    ensures all { is_answer result ≡ true
+        → W.told world.new ≡ record (W.told world.old) {
+          printed =
+              with_after (W.told world.old).printed (report commands.now replies.now session.now.state);
+        } }
+    ensures part { PrintsPart (W.told world.old) (W.told world.new)
+        (report commands.now replies.now session.now.state) }
     ensures goes_on { is_past_script result ≡ true }
     ensures cause { Caused result (W.told world.old) (W.told world.new) }
 {
@@ -190,7 +205,8 @@ fn refuse_words<W: World>(world: &mut W) -> Status
 
 // Prints the one line for a model that is not accepted.
 fn refuse_model<W: World>(alloc: Global, refusal: ObjRefusal, world: &mut W) -> Status
-    ensures { PrintsRefusal (Status.ModelRefused refusal) (model_line refusal) result (W.told world.old) (W.told world.new) }
+    ensures { PrintsRefusal (Status.ModelRefused refusal) (model_line refusal) result (W.told world.old)
+        (W.told world.new) }
 {
     let line = refusal.line;
     let why = refusal.why;
@@ -202,7 +218,8 @@ fn refuse_model<W: World>(alloc: Global, refusal: ObjRefusal, world: &mut W) -> 
 
 // Prints the one line for a script that is not accepted.
 fn refuse_script<W: World>(alloc: Global, refusal: ScriptRefusal, world: &mut W) -> Status
-    ensures { PrintsRefusal (Status.ScriptRefused refusal) (script_line refusal) result (W.told world.old) (W.told world.new) }
+    ensures { PrintsRefusal (Status.ScriptRefused refusal) (script_line refusal) result (W.told world.old)
+        (W.told world.new) }
 {
     let line = refusal.line;
     let why = refusal.why;

@@ -2,15 +2,15 @@
 use Rattle.std.proofs.Common.{◌≡◌, Bool, true, false, cond, List, [], ◌∷◌, refl, arith, Option, Some, None, is_some, Ok}
 use Rattle.std.specs.List.{All, filter_map, cons_option, slice_get}
 use Rattle.std.proofs.lemmas.List.Elements.{All-cons}
-use Rattle.plain_model.specs.Table.{at, IsThere}
-use Rattle.plain_model.specs.Complex.{Complex}
-use Rattle.plain_model.specs.declared.names.VertName.{VertName}
-use Rattle.plain_model.specs.declared.names.Elem.TheVariants.{Vert, Edge, Face}
-use Rattle.plain_model.specs.declared.refusal.Refusal.{Refusal}
-use Rattle.plain_model.specs.declared.refusal.Why.TheVariants.{NoSuch}
-use Rattle.plain_model.specs.declared.refusal.Place.TheVariants.{Elem}
-use Rattle.plain_model.specs.declared.slots.Term.{Term}
-use Rattle.plain_model.specs.declared.slots.Term.TheVariants.{One}
+use Rattle.mesh_model.specs.Table.{at, IsThere}
+use Rattle.mesh_model.specs.Complex.{Complex}
+use Rattle.mesh_model.specs.declared.names.VertName.{VertName}
+use Rattle.mesh_model.specs.declared.names.Elem.TheVariants.{Vert, Edge, Face}
+use Rattle.mesh_model.specs.declared.refusal.Refusal.{Refusal}
+use Rattle.mesh_model.specs.declared.refusal.Why.TheVariants.{NoSuch}
+use Rattle.mesh_model.specs.declared.refusal.Place.TheVariants.{Elem}
+use Rattle.mesh_model.specs.declared.slots.Term.{Term}
+use Rattle.mesh_model.specs.declared.slots.Term.TheVariants.{One}
 use Rattle.mesh_session.specs.Arguments.{term_fault, vert_of, verts_unless, named_verts}
 
 -- the refusals of some terms
@@ -18,7 +18,8 @@ abbrev faults : Complex → List Term → List Refusal
 faults c ts = filter_map (term_fault c) ts
 
 there_or : (c : Complex) (v : VertName) (b : Bool) (ts : List Term) → is_some (at c.verts v.0) ≡ b
-    → slice_get (cons_option (cond b None (Some (record { why = NoSuch; place = Elem (Vert v) }))) (faults c ts)) 0 ≡ None
+    → slice_get (cons_option (cond b None (Some (record { why = NoSuch; place = Elem (Vert v) }))) (faults c ts)) 0
+    ≡ None
     → (b ≡ true) × (slice_get (faults c ts) 0 ≡ None)
 there_or c v true ts is h = (refl, h)
 there_or c v false ts is h = absurd (cc)

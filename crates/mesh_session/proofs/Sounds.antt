@@ -3,11 +3,8 @@ use Rattle.std.proofs.Common.{◌≡◌, ◌∙◌, List, [], ◌∷◌, ◌++�
 use Rattle.std.specs.Prelude.{option_to_list}
 use Rattle.std.specs.List.{All, cons_option}
 use Rattle.std.proofs.lemmas.List.Elements.{All-push, filter_map-append}
-use Rattle.plain_model.specs.Complex.{Complex}
-use Rattle.plain_model.specs.Valid.{IsSound}
-use Rattle.plain_model.specs.Deleting.{without_verts}
-use Rattle.plain_model.specs.declared.names.VertName.{VertName}
-use Rattle.plain_model.proofs.Valids.{IsValid-without_verts, IsSimple-without_verts}
+use Rattle.mesh_model.specs.Complex.{Complex}
+use Rattle.mesh_model.specs.Valid.{IsSound}
 use Rattle.mesh_session.specs.State.{State, bindings_of, state_with, IsSoundState, next_state}
 use Rattle.mesh_session.specs.declared.entry.Binding.{Binding}
 use Rattle.mesh_session.specs.declared.entry.Entry.{Entry}
@@ -17,15 +14,11 @@ one None = refl
 one (Some b) = refl
 
 -- one entry more
-bindings_of-push : (es : List Entry) (e : Entry) → bindings_of (es ++ e ∷ []) ≡ bindings_of es ++ option_to_list e.binding
+bindings_of-push : (es : List Entry) (e : Entry)
+    → bindings_of (es ++ e ∷ []) ≡ bindings_of es ++ option_to_list e.binding
 bindings_of-push es e =
     filter_map-append (λ (x : Entry). x.binding) es (e ∷ [])
     ∙ ap (λ (bs : List Binding). bindings_of es ++ bs) (one e.binding)
-
--- vertices are deleted
-pub IsSound-without_verts : (c : Complex) (vs : List VertName) → IsSound c → IsSound (without_verts c vs)
-IsSound-without_verts c vs h =
-    record { valid = IsValid-without_verts c vs h.valid; simple = IsSimple-without_verts c vs h.simple }
 
 -- a sound session goes on to a sound complex
 pub IsSoundState-next_state : (s new : State) (b : Option Binding) (next : Complex) → new ≡ next_state s b next
@@ -40,7 +33,8 @@ IsSoundState-next_state s new b next is h sound =
 
 -- the view of a session that went on
 pub state_with-next : (now next : Complex) (undo redo : List Entry) (b : Option Binding)
-    → state_with next (undo ++ record { complex = now; binding = b } ∷ []) [] ≡ next_state (state_with now undo redo) b next
+    → state_with next (undo ++ record { complex = now; binding = b } ∷ []) []
+    ≡ next_state (state_with now undo redo) b next
 state_with-next now next undo redo b =
     let more : List Entry = undo ++ record { complex = now; binding = b } ∷ [] in
     ap (λ (bs : List Binding). record { now = next; bindings = bs; undo = more; redo = [] })

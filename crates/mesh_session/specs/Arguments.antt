@@ -3,15 +3,15 @@ use Rattle.std.specs.Prelude.{is_some, if◌then◌else◌, List, [], ◌∷◌,
 use Rattle.std.specs.declared.option.Option.{Option}
 use Rattle.std.specs.declared.option.Option.TheVariants.{None, Some}
 use Rattle.std.specs.List.{filter_map}
-use Rattle.plain_model.specs.Table.{at}
-use Rattle.plain_model.specs.Complex.{Complex}
-use Rattle.plain_model.specs.declared.names.VertName.{VertName}
-use Rattle.plain_model.specs.declared.names.Elem.TheVariants.{Vert, Edge, Face}
-use Rattle.plain_model.specs.declared.refusal.Refusal.{Refusal}
-use Rattle.plain_model.specs.declared.refusal.Why.TheVariants.{NoSuch, WrongKind, Empty}
-use Rattle.plain_model.specs.declared.refusal.Place.TheVariants.{Nowhere, Elem}
-use Rattle.plain_model.specs.declared.slots.Term.{Term}
-use Rattle.plain_model.specs.declared.slots.Term.TheVariants.{One}
+use Rattle.mesh_model.specs.Table.{at}
+use Rattle.mesh_model.specs.Complex.{Complex}
+use Rattle.mesh_model.specs.declared.names.VertName.{VertName}
+use Rattle.mesh_model.specs.declared.names.Elem.TheVariants.{Vert, Edge, Face}
+use Rattle.mesh_model.specs.declared.refusal.Refusal.{Refusal}
+use Rattle.mesh_model.specs.declared.refusal.Why.TheVariants.{NoSuch, WrongKind, Empty}
+use Rattle.mesh_model.specs.declared.refusal.Place.TheVariants.{Nowhere, Elem}
+use Rattle.mesh_model.specs.declared.slots.Term.{Term}
+use Rattle.mesh_model.specs.declared.slots.Term.TheVariants.{One}
 
 -- why a term can't stand where vertices are wanted, if it can't: it names another kind, or a vertex that isn't there
 abbrev pub term_fault : Complex → Term → Option Refusal

@@ -1,20 +1,20 @@
 -- What each operator gives: its slots and the complex after, or the first refusal.
 use Rattle.std.specs.Prelude.{List, [], Result, Ok, Err}
-use Rattle.std.proofs.Common.{refl}
-use Rattle.plain_model.specs.Complex.{Complex}
-use Rattle.plain_model.specs.Deleting.{without_verts}
-use Rattle.plain_model.specs.declared.names.VertName.{VertName}
-use Rattle.plain_model.specs.declared.refusal.Refusal.{Refusal}
-use Rattle.plain_model.specs.declared.slots.Slots.{Slots}
-use Rattle.plain_model.specs.declared.slots.Op.{Op}
-use Rattle.plain_model.specs.declared.slots.Op.TheVariants.{Delete}
-use Rattle.plain_model.specs.declared.slots.Context.TheVariants.{Verts}
+use Rattle.mesh_model.specs.Complex.{Complex}
+use Rattle.mesh_model.specs.Elements.{no_elements}
+use Rattle.mesh_model.specs.Deleting.{without_verts}
+use Rattle.mesh_model.specs.declared.names.VertName.{VertName}
+use Rattle.mesh_model.specs.declared.refusal.Refusal.{Refusal}
+use Rattle.mesh_model.specs.declared.slots.Slots.{Slots}
+use Rattle.mesh_model.specs.declared.slots.Op.{Op}
+use Rattle.mesh_model.specs.declared.slots.Op.TheVariants.{Delete}
+use Rattle.mesh_model.specs.declared.slots.Context.TheVariants.{Verts}
 use Rattle.mesh_session.specs.Arguments.{named_verts}
 use Rattle.mesh_session.specs.State.{State}
 
--- no elements
+-- no elements, and no vertex went anywhere
 abbrev pub no_slots : Slots
-no_slots = record { geom = record { verts = []; edges = []; faces = []; rising = refl } }
+no_slots = record { geom = no_elements; map = [] }
 
 -- deleting takes the named vertices away, with their edges and the faces with them, and gives back no elements
 abbrev pub delete_result : Complex → Result (List VertName) Refusal → Result (Slots × Complex) Refusal

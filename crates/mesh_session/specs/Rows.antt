@@ -1,29 +1,30 @@
 -- Commands on the square, worked out.
-use Rattle.std.specs.Prelude.{◌≡◌, ℕ, List, [], ◌∷◌, map}
-use Rattle.std.specs.declared.option.Option.TheVariants.{None}
-use Rattle.plain_model.specs.Complex.{Complex}
-use Rattle.plain_model.specs.Deleting.{without_verts}
-use Rattle.plain_model.specs.Rows.{square, vert}
-use Rattle.plain_model.specs.declared.names.Elem.{Elem}
-use Rattle.plain_model.specs.declared.names.Elem.TheVariants.{Vert, Edge}
-use Rattle.plain_model.specs.declared.refusal.Why.{Why}
-use Rattle.plain_model.specs.declared.refusal.Why.TheVariants.{NoSuch, WrongKind, Empty}
-use Rattle.plain_model.specs.declared.refusal.Place.TheVariants as place
-use Rattle.plain_model.specs.declared.slots.Term.{Term}
-use Rattle.plain_model.specs.declared.slots.Term.TheVariants.{One}
-use Rattle.plain_model.specs.declared.slots.Op.TheVariants.{Delete}
-use Rattle.plain_model.specs.declared.slots.Context.TheVariants.{Verts}
-use Rattle.plain_model.specs.declared.slots.What.TheVariants.{Run}
-use Rattle.plain_model.specs.declared.slots.Command.{Command}
+use Rattle.std.specs.Prelude.{◌≡◌, ℕ, List, [], ◌∷◌, map, codes}
+use Rattle.std.specs.declared.option.Option.TheVariants.{None, Some}
+use Rattle.mesh_model.specs.Complex.{Complex}
+use Rattle.mesh_model.specs.Deleting.{without_verts}
+use Rattle.mesh_model.specs.Models.{square, vert}
+use Rattle.mesh_model.specs.declared.names.Elem.{Elem}
+use Rattle.mesh_model.specs.declared.names.Elem.TheVariants.{Vert, Edge}
+use Rattle.mesh_model.specs.declared.refusal.Why.{Why}
+use Rattle.mesh_model.specs.declared.refusal.Why.TheVariants.{NoSuch, WrongKind, Empty}
+use Rattle.mesh_model.specs.declared.refusal.Place.TheVariants as place
+use Rattle.mesh_model.specs.declared.slots.Term.{Term}
+use Rattle.mesh_model.specs.declared.slots.Term.TheVariants.{One}
+use Rattle.mesh_model.specs.declared.slots.Op.TheVariants.{Delete}
+use Rattle.mesh_model.specs.declared.slots.Context.TheVariants.{Verts}
+use Rattle.mesh_model.specs.declared.slots.What.TheVariants.{Run}
+use Rattle.mesh_model.specs.declared.slots.Command.{Command}
 use Rattle.mesh_session.specs.Operators.{no_slots}
 use Rattle.mesh_session.specs.State.{State, first_state, fresh_state}
 use Rattle.mesh_session.specs.Steps.{step, steps}
+use Rattle.mesh_session.specs.declared.entry.Binding.{Binding}
 use Rattle.mesh_session.specs.declared.reply.Reply.{Reply}
 use Rattle.mesh_session.specs.declared.reply.Reply.TheVariants.{Done, Refused}
 
 -- a command on a line that deletes elements with the context of vertices
 abbrev pub deletes : ℕ → List Term → Command
-deletes line terms = record { line = line; what = Run (Delete terms Verts) }
+deletes line terms = record { line = line; bind = None; what = Run (Delete terms Verts) }
 
 -- a name's vertex as a term
 abbrev pub vert_term : ℕ → Term
@@ -47,6 +48,21 @@ abbrev pub CutsACorner : Type 0
 CutsACorner =
     step (first_state square) (deletes 1 (vert_term 0 ∷ []))
     ≡ (Done no_slots, state_after (without_verts square (vert 0 ∷ [])) (square ∷ []))
+
+-- a command with a name binds what it gives back, and undo takes that away
+abbrev pub BindsItsSlots : Type 0
+BindsItsSlots =
+    let binding : Binding = record { name = codes "gone"; slots = no_slots } in
+    step (first_state square) (record (deletes 1 (vert_term 0 ∷ [])) { bind = Some (codes "gone") })
+    ≡ (
+      Done no_slots,
+      record {
+        now = without_verts square (vert 0 ∷ []);
+        bindings = binding ∷ [];
+        undo = record { complex = square; binding = Some binding } ∷ [];
+        redo = [];
+      },
+    )
 
 -- a vertex that isn't there is refused by its name, the first in the order written, and the state is the same
 abbrev pub RefusesAMissingVertex : Type 0

@@ -2,8 +2,8 @@
 use Rattle.std.specs.Prelude.{◌≡◌, List, [], ◌∷◌, ◌++◌, option_to_list}
 use Rattle.std.specs.declared.option.Option.{Option}
 use Rattle.std.specs.List.{All, filter_map}
-use Rattle.plain_model.specs.Complex.{Complex, no_complex}
-use Rattle.plain_model.specs.Valid.{IsSound}
+use Rattle.mesh_model.specs.Complex.{Complex, no_complex}
+use Rattle.mesh_model.specs.Valid.{IsSound}
 use Rattle.mesh_session.specs.declared.entry.Binding.{Binding}
 use Rattle.mesh_session.specs.declared.entry.Entry.{Entry}
 

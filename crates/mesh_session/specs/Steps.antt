@@ -1,26 +1,22 @@
 -- What commands do to a session.
-use Rattle.std.specs.Prelude.{List, [], ◌∷◌, Result, Ok, Err}
+use Rattle.std.specs.Prelude.{ℕ, List, [], ◌∷◌, Result, Ok, Err}
 use Rattle.std.specs.declared.option.Option.{Option}
-use Rattle.std.specs.declared.option.Option.TheVariants.{None}
-use Rattle.plain_model.specs.Complex.{Complex}
-use Rattle.plain_model.specs.declared.refusal.Refusal.{Refusal}
-use Rattle.plain_model.specs.declared.slots.Slots.{Slots}
-use Rattle.plain_model.specs.declared.slots.Command.{Command}
-use Rattle.plain_model.specs.declared.slots.What.{What}
-use Rattle.plain_model.specs.declared.slots.What.TheVariants.{Run}
+use Rattle.std.specs.Option.{option_map}
+use Rattle.mesh_model.specs.Complex.{Complex}
+use Rattle.mesh_model.specs.declared.refusal.Refusal.{Refusal}
+use Rattle.mesh_model.specs.declared.slots.Slots.{Slots}
+use Rattle.mesh_model.specs.declared.slots.Command.{Command}
+use Rattle.mesh_model.specs.declared.slots.What.{What}
+use Rattle.mesh_model.specs.declared.slots.What.TheVariants.{Run}
 use Rattle.mesh_session.specs.Operators.{op_result}
 use Rattle.mesh_session.specs.State.{State, next_state}
 use Rattle.mesh_session.specs.declared.entry.Binding.{Binding}
 use Rattle.mesh_session.specs.declared.reply.Reply.{Reply}
 use Rattle.mesh_session.specs.declared.reply.Reply.TheVariants.{Done, Refused}
 
--- nothing is bound
-abbrev pub no_binding : Slots → Option Binding
-no_binding slots = None
-
--- what a done command binds, by its slots: no command has a name so far
-abbrev pub binding_of : Command → Slots → Option Binding
-binding_of c = no_binding
+-- what a done command binds: its slots to its name, if it has one
+abbrev pub binding_of : Option (List ℕ) → Slots → Option Binding
+binding_of name slots = option_map (λ (n : List ℕ). record { name = n; slots = slots }) name
 
 -- the reply by an operator's result, and the state then: refused, it is the same; done, it goes on to the operator's
 -- complex, with what is bound to the slots
@@ -30,7 +26,7 @@ with_result s bind (Ok done) = (Done done.0, next_state s (bind done.0) done.1)
 
 -- the reply to a command by what it does, and the state then
 abbrev pub step_by : State → Command → What → Reply × State
-step_by s c (Run op) = with_result s (binding_of c) (op_result s op)
+step_by s c (Run op) = with_result s (binding_of c.bind) (op_result s op)
 
 -- the reply to a command, and the state then
 abbrev pub step : State → Command → Reply × State

@@ -4,8 +4,8 @@ ghost use Rattle.std.specs.Prelude.{◌≡◌, slice_get, IfOk};
 ghost use Rattle.std.specs.List.{filter_map};
 ghost use Rattle.mesh_session.specs.Arguments.{term_fault, vert_of, named_verts};
 
-use plain_model::slots::Term;
-use plain_model::{Draft, Elem, NoMemory, Place, Refusal, Sequence, Shape, VertName, Why};
+use mesh_model::slots::Term;
+use mesh_model::{Draft, Elem, NoMemory, Place, Refusal, Sequence, Shape, VertName, Why};
 use std::alloc::Global;
 
 // The vertices that some terms stand for, or the refusal of the first term that can't stand here.
@@ -35,17 +35,17 @@ fn first_fault(now: &Draft, terms: &[Term]) -> Option<Refusal>
     ensures { result ≡ slice_get (filter_map (term_fault now.now) terms.now) 0 }
 {
     for term in terms {
-        if let Some(refusal) = term_fault(now, *term) {
+        if let Some(refusal) = term_fault(now, term) {
             return Some(refusal);
         }
     }
     None
 }
 
-fn term_fault(now: &Draft, term: Term) -> Option<Refusal>
-    ensures { result ≡ term_fault now.now term }
+fn term_fault(now: &Draft, term: &Term) -> Option<Refusal>
+    ensures { result ≡ term_fault now.now term.now }
 {
-    let Term::One(elem) = term;
+    let Term::One(elem) = *term;
     match elem {
         Elem::Vert(_) => {
             if now.has(elem) {
@@ -71,13 +71,13 @@ fn at(why: Why, elem: Elem) -> Refusal
 fn verts_of(alloc: Global, terms: &[Term]) -> Result<Vec<VertName>, NoMemory>
     ensures { IfOk result (λ v. v.items ≡ filter_map vert_of terms.now) }
 {
-    terms.iter().filter_map(|t| vert_of(*t)).collect(alloc)
+    terms.iter().filter_map(|t| vert_of(t)).collect(alloc)
 }
 
-fn vert_of(term: Term) -> Option<VertName>
-    ensures { result ≡ vert_of term }
+fn vert_of(term: &Term) -> Option<VertName>
+    ensures { result ≡ vert_of term.now }
 {
-    let Term::One(elem) = term;
+    let Term::One(elem) = *term;
     match elem {
         Elem::Vert(v) => Some(v),
         Elem::Edge(_) => None,

@@ -1,12 +1,12 @@
 //! What undo and redo go to.
 
-use plain_model::slots::Slots;
-use plain_model::{Draft, Sequence};
+use mesh_model::slots::Slots;
+use mesh_model::{Draft, Text};
 
 /// A name, and the slots that a command bound to it.
 #[derive(Drop)]
 pub struct Binding {
-    pub name: Sequence<u8>,
+    pub name: Text,
     pub slots: Slots,
 }
 

@@ -1,11 +1,12 @@
 //! Commands on the square, worked out. The checker proves each statement, and no call does anything.
 
-ghost use Rattle.mesh_session.specs.Rows.{CutsACorner, DeletesOnce, NoCommand, RefusesAMissingVertex};
-ghost use Rattle.mesh_session.specs.Rows.{RefusesOtherTerms};
+ghost use Rattle.mesh_session.specs.Rows.{BindsItsSlots, CutsACorner, DeletesOnce, NoCommand};
+ghost use Rattle.mesh_session.specs.Rows.{RefusesAMissingVertex, RefusesOtherTerms};
 
 /// Single commands, done and refused.
 pub fn single()
     ensures cuts { CutsACorner }
+    ensures binds { BindsItsSlots }
     ensures missing { RefusesAMissingVertex }
     ensures kinds { RefusesOtherTerms }
 {}

@@ -1,17 +1,19 @@
 ghost use Rattle.std.specs.Prelude.{◌≡◌, [], ◌∷◌, ◌++◌, OnErr, OnOk, IfOk, length};
 ghost use Rattle.std.specs.List.{All};
-ghost use Rattle.plain_model.specs.Table.{IsThere};
-ghost use Rattle.plain_model.specs.Deleting.{without_verts};
-ghost use Rattle.plain_model.specs.Valid.{IsSound};
+ghost use Rattle.mesh_model.specs.Table.{IsThere};
+ghost use Rattle.mesh_model.specs.Deleting.{without_verts};
+ghost use Rattle.mesh_model.specs.Valid.{IsSound};
 ghost use Rattle.mesh_session.specs.Operators.{op_result};
 ghost use Rattle.mesh_session.specs.State.{fresh_state, first_state, next_state, IsSoundState};
-ghost use Rattle.mesh_session.specs.Steps.{no_binding, with_result, step};
+ghost use Rattle.mesh_session.specs.Steps.{binding_of, with_result, step};
 
 use crate::arguments::named_verts;
 use crate::entry::{Binding, Entry};
-use crate::reply::{Reply, no_slots};
-use plain_model::slots::{Command, Context, Expr, Op, What};
-use plain_model::{Counters, Draft, EdgeName, Elem, FaceName, NoMemory, Point, Shape, VertName};
+use crate::reply::{Reply, binding_of, no_slots};
+use mesh_model::slots::{Command, Context, Expr, Op, What};
+use mesh_model::{
+    Counters, Draft, EdgeName, Elem, FaceName, Kind, NoMemory, Point, Rule, Shape, Text, VertName,
+};
 use std::alloc::Global;
 use std::marker::Model;
 use std::mem;
@@ -43,7 +45,7 @@ impl Session {
     {
         Session {
             alloc,
-            current: Draft::new(alloc),
+            current: Draft::bare(alloc),
             undo: Vec::new(alloc),
             redo: Vec::new(alloc),
         }
@@ -62,7 +64,8 @@ impl Session {
         Ok(())
     }
 
-    /// Runs one command. After `Refused` and after `NoMemory` the state is as before.
+    /// Runs one command, and binds what it gives back to its name, if it has one. After `Refused` and after
+    /// `NoMemory` the state is as before.
     /// In time proportional to the complex, which undo keeps as a whole copy.
     pub fn step(&mut self, c: &Command) -> Result<Reply, NoMemory>
         ensures ok { IfOk result (λ reply. (reply, self.new.state) ≡ step self.old.state c.now) }
@@ -70,48 +73,56 @@ impl Session {
         ensures sound { IsSoundState self.new.state }
     {
         match &c.what {
-            What::Run(op) => self.run(op),
+            What::Run(op) => self.run(op, &c.bind),
         }
     }
 
-    // Runs an operator. Nothing is bound.
-    fn run(&mut self, op: &Op) -> Result<Reply, NoMemory>
+    // Runs an operator, and binds what it gives back to a name, if there is one.
+    fn run(&mut self, op: &Op, name: &Option<Text>) -> Result<Reply, NoMemory>
         ensures ok { IfOk result (λ reply. (reply, self.new.state)
-            ≡ with_result self.old.state no_binding (op_result self.old.state op.now)) }
+            ≡ with_result self.old.state (binding_of name.now) (op_result self.old.state op.now)) }
         ensures err { OnErr result (self.new.state ≡ self.old.state) }
         ensures sound { IsSoundState self.new.state }
     {
         match op {
-            Op::Delete { geom, context } => self.delete(geom, *context),
+            Op::Delete { geom, context } => self.delete(geom, *context, name),
         }
     }
 
-    fn delete(&mut self, geom: &Expr, context: Context) -> Result<Reply, NoMemory>
+    fn delete(
+        &mut self,
+        geom: &Expr,
+        context: Context,
+        name: &Option<Text>,
+    ) -> Result<Reply, NoMemory>
         ensures ok { IfOk result (λ reply. (reply, self.new.state)
-            ≡ with_result self.old.state no_binding (op_result self.old.state (Op.Delete geom.now context))) }
+            ≡ with_result self.old.state (binding_of name.now)
+            (op_result self.old.state (Op.Delete geom.now context))) }
         ensures err { OnErr result (self.new.state ≡ self.old.state) }
         ensures sound { IsSoundState self.new.state }
     {
         let Context::Verts = context;
         match named_verts(self.alloc, &self.current, geom.as_slice())? {
             Ok(verts) => {
-                self.delete_verts(verts.as_slice())?;
-                Ok(Reply::Done(no_slots(self.alloc)))
+                let slots = no_slots(self.alloc);
+                let binding = binding_of(name, &slots)?;
+                self.delete_verts(verts.as_slice(), binding)?;
+                Ok(Reply::Done(slots))
             }
             Err(refusal) => Ok(Reply::Refused(refusal)),
         }
     }
 
     // Deletes vertices that are there.
-    fn delete_verts(&mut self, verts: &[VertName]) -> Result<(), NoMemory>
+    fn delete_verts(&mut self, verts: &[VertName], binding: Option<Binding>) -> Result<(), NoMemory>
         requires { All (λ v. IsThere self.old.state.now.verts v.0) verts.now }
         ensures ok { OnOk result (self.new.state
-            ≡ next_state self.old.state None (without_verts self.old.state.now verts.now)) }
+            ≡ next_state self.old.state binding (without_verts self.old.state.now verts.now)) }
         ensures err { OnErr result (self.new.state ≡ self.old.state) }
         ensures sound { IsSoundState self.new.state }
     {
         let next = self.current.without_verts(verts)?;
-        self.advance(next, None)
+        self.advance(next, binding)
     }
 
     // Goes on to a sound complex with a binding, keeps the complex before for undo, and leaves nothing to redo.
@@ -193,6 +204,10 @@ impl Shape for Session {
         self.current.counters()
     }
 
+    fn width(&self, kind: Kind) -> usize {
+        self.current.width(kind)
+    }
+
     fn point(&self, v: VertName) -> Point {
         self.current.point(v)
     }
@@ -211,5 +226,53 @@ impl Shape for Session {
 
     fn corner(&self, f: FaceName, i: u32) -> (VertName, EdgeName) {
         self.current.corner(f, i)
+    }
+
+    fn corners(&self, f: FaceName, into: &mut [(VertName, EdgeName)]) {
+        self.current.corners(f, into)
+    }
+
+    fn corner_rows(&self, f: FaceName, into: &mut [i64]) {
+        self.current.corner_rows(f, into)
+    }
+
+    fn vert_value(&self, v: VertName, k: usize) -> i64 {
+        self.current.vert_value(v, k)
+    }
+
+    fn edge_value(&self, e: EdgeName, k: usize) -> i64 {
+        self.current.edge_value(e, k)
+    }
+
+    fn corner_value(&self, f: FaceName, i: u32, k: usize) -> i64 {
+        self.current.corner_value(f, i, k)
+    }
+
+    fn face_value(&self, f: FaceName, k: usize) -> i64 {
+        self.current.face_value(f, k)
+    }
+
+    fn material(&self, k: usize) -> Option<&[u8]> {
+        self.current.material(k)
+    }
+
+    fn library(&self, k: usize) -> Option<&[u8]> {
+        self.current.library(k)
+    }
+
+    fn layers(&self, kind: Kind) -> usize {
+        self.current.layers(kind)
+    }
+
+    fn layer_name(&self, kind: Kind, k: usize) -> &[u8] {
+        self.current.layer_name(kind, k)
+    }
+
+    fn layer_width(&self, kind: Kind, k: usize) -> u8 {
+        self.current.layer_width(kind, k)
+    }
+
+    fn layer_rule(&self, kind: Kind, k: usize) -> Rule {
+        self.current.layer_rule(kind, k)
     }
 }

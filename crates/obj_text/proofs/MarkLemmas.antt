@@ -1,37 +1,50 @@
 -- Lemmas on marks and on distinct vertices.
-use Rattle.std.proofs.Common.{◌≡◌, ◌≢◌, ℕ, ◌+◌, ◌<◌, Bool, true, false, not, ◌&&◌, ◌||◌, eqb, List, [], ◌∷◌, ◌++◌, length, get_or, map, take, drop, set, refl, sym, ap, ◌∙◌, inl, inr, arith, true≢false}
+use Rattle.std.proofs.Common.{◌≡◌, ◌≢◌, ℕ, ◌+◌, ◌<◌, Bool, true, false, not, ◌&&◌, ◌||◌, eqb, List, [], ◌∷◌, ◌++◌}
+use Rattle.std.proofs.Common.{length, get_or, map, take, drop, set, refl, sym, ap, ◌∙◌, inl, inr, arith, true≢false}
 use Rattle.std.specs.Cmp.{nat_eq_equiv}
 use Rattle.std.proofs.Math.Bool.{or-false, or-true, and-false}
-use Rattle.std.proofs.lemmas.List.{take_more, get_or-map, length-map, get_or-set_same, get_or-set_other, take-append-drop, length-set}
+use Rattle.std.proofs.lemmas.List.{take_more, get_or-map, length-map, get_or-set_same, get_or-set_other}
+use Rattle.std.proofs.lemmas.List.{take-append-drop, length-set}
 use Rattle.std.proofs.lemmas.List.Folds.{list_any-append}
 use Rattle.std.proofs.lemmas.Bool.{eq-eqb}
 use Rattle.std.proofs.lemmas.Bool.Decides.{eqb_tells}
-use Rattle.plain_model.specs.Deleting.{is_among}
-use Rattle.plain_model.specs.Valid.{are_distinct}
-use Rattle.plain_model.specs.declared.names.VertName.{VertName}
+use Rattle.mesh_model.specs.Elements.{is_among}
+use Rattle.mesh_model.specs.Valid.{are_distinct}
+use Rattle.mesh_model.specs.declared.names.VertName.{VertName}
 use Rattle.obj_text.specs.Obj.{vert_at}
+
+-- the vertex of a number
+abbrev named : ℕ → VertName
+named n = record { 0 = n }
 
 -- just the vertices of a list have a mark
 pub record Marked (mark : ℕ) (vs : List VertName) (marks : List ℕ) : Type 0 where
-  pub are : (n : ℕ) → n < length marks → eqb (get_or marks n 0) mark ≡ is_among vs n
+  pub are : (n : ℕ) → n < length marks → eqb (get_or marks n 0) mark ≡ is_among vs (named n)
 
 -- DISTINCT VERTICES
 
 -- the vertices of a list and one more
-pub is_among_push : (vs : List VertName) (v : VertName) (n : ℕ) → is_among (vs ++ v ∷ []) n ≡ (is_among vs n || eqb v.0 n)
-is_among_push vs v n = list_any-append (λ (u : VertName). eqb u.0 n) vs (v ∷ []) ∙ ap (λ (b : Bool). is_among vs n || b) (or-false (eqb v.0 n))
+pub is_among_push : (vs : List VertName) (v : VertName) (n : ℕ)
+    → is_among (vs ++ v ∷ []) (named n) ≡ (is_among vs (named n) || eqb v.0 n)
+is_among_push vs v n = list_any-append (λ (u : VertName). eqb u.0 n) vs (v ∷ [])
+    ∙ ap (λ (b : Bool). is_among vs (named n) || b) (or-false (eqb v.0 n))
 
 -- a list that repeats a vertex does so with others after it
-among_grows : (vs us : List VertName) (n : ℕ) → is_among vs n ≡ true → is_among (vs ++ us) n ≡ true
-among_grows vs us n h = list_any-append (λ (u : VertName). eqb u.0 n) vs us ∙ ap (λ (b : Bool). b || is_among us n) h
+among_grows : (vs us : List VertName) (n : ℕ) → is_among vs (named n) ≡ true → is_among (vs ++ us) (named n) ≡ true
+among_grows vs us n h = list_any-append (λ (u : VertName). eqb u.0 n) vs us
+    ∙ ap (λ (b : Bool). b || is_among us (named n)) h
 
-repeats_with : (v : VertName) (vs us : List VertName) (a : Bool) → is_among vs v.0 ≡ a → (not a && are_distinct vs) ≡ false → (are_distinct vs ≡ false → are_distinct (vs ++ us) ≡ false) → (not (is_among (vs ++ us) v.0) && are_distinct (vs ++ us)) ≡ false
-repeats_with v vs us true among h grows = ap (λ (b : Bool). not b && are_distinct (vs ++ us)) (among_grows vs us v.0 among)
-repeats_with v vs us false among h grows = ap (λ (b : Bool). not (is_among (vs ++ us) v.0) && b) (grows h) ∙ and-false (not (is_among (vs ++ us) v.0))
+repeats_with : (v : VertName) (vs us : List VertName) (a : Bool) → is_among vs v ≡ a
+    → (not a && are_distinct vs) ≡ false → (are_distinct vs ≡ false → are_distinct (vs ++ us) ≡ false)
+    → (not (is_among (vs ++ us) v) && are_distinct (vs ++ us)) ≡ false
+repeats_with v vs us true among h grows =
+    ap (λ (b : Bool). not b && are_distinct (vs ++ us)) (among_grows vs us v.0 among)
+repeats_with v vs us false among h grows = ap (λ (b : Bool). not (is_among (vs ++ us) v) && b) (grows h)
+    ∙ and-false (not (is_among (vs ++ us) v))
 
 pub repeats_grows : (vs us : List VertName) → are_distinct vs ≡ false → are_distinct (vs ++ us) ≡ false
 repeats_grows [] us h = absurd (true≢false h)
-repeats_grows (v ∷ vs) us h = repeats_with v vs us (is_among vs v.0) refl h (repeats_grows vs us)
+repeats_grows (v ∷ vs) us h = repeats_with v vs us (is_among vs v) refl h (repeats_grows vs us)
 
 -- distinct vertices and one more
 push_with : (a b d e : Bool) → (not (a || b) && (d && not e)) ≡ ((not a && d) && not (b || e))
@@ -40,13 +53,15 @@ push_with false true true e = refl
 push_with false true false e = refl
 push_with false false d e = refl
 
-pub distinct_push : (vs : List VertName) (v : VertName) → are_distinct (vs ++ v ∷ []) ≡ (are_distinct vs && not (is_among vs v.0))
+pub distinct_push : (vs : List VertName) (v : VertName)
+    → are_distinct (vs ++ v ∷ []) ≡ (are_distinct vs && not (is_among vs v))
 distinct_push [] v = refl
 distinct_push (u ∷ us) v =
     ap (λ (b : Bool). not b && are_distinct (us ++ v ∷ [])) (is_among_push us v u.0)
-    ∙ ap (λ (b : Bool). not (is_among us u.0 || eqb v.0 u.0) && b) (distinct_push us v)
-    ∙ ap (λ (b : Bool). not (is_among us u.0 || b) && (are_distinct us && not (is_among us v.0))) (nat_eq_equiv.symm v.0 u.0)
-    ∙ push_with (is_among us u.0) (eqb u.0 v.0) (are_distinct us) (is_among us v.0)
+    ∙ ap (λ (b : Bool). not (is_among us u || eqb v.0 u.0) && b) (distinct_push us v)
+    ∙ ap (λ (b : Bool). not (is_among us u || b) && (are_distinct us && not (is_among us v)))
+    (nat_eq_equiv.symm v.0 u.0)
+    ∙ push_with (is_among us u) (eqb u.0 v.0) (are_distinct us) (is_among us v)
 
 -- MARKS
 
@@ -54,18 +69,23 @@ differ_false : (a b : ℕ) → a ≢ b → eqb a b ≡ false
 differ_false a b h = elim (eqb_tells a b) [ inl e ↦ absurd (h e.1) | inr e ↦ e.0 ]
 
 -- one vertex more
-pub marked_more : (mark : ℕ) (vs : List VertName) (v : VertName) (marks : List ℕ) → v.0 < length marks → Marked mark vs marks → Marked mark (vs ++ v ∷ []) (set marks v.0 mark)
+pub marked_more : (mark : ℕ) (vs : List VertName) (v : VertName) (marks : List ℕ) → v.0 < length marks
+    → Marked mark vs marks → Marked mark (vs ++ v ∷ []) (set marks v.0 mark)
 marked_more mark vs v marks here h = record {
   are = λ n less.
       let within : n < length marks = omega (arith, length-set marks v.0 mark) in
       elim (eqb_tells v.0 n) [
         | inl e ↦
-            let now : get_or (set marks v.0 mark) n 0 ≡ mark = ap (λ (k : ℕ). get_or (set marks v.0 mark) k 0) (sym e.1) ∙ get_or-set_same marks v.0 mark 0 here in
-            let among : is_among (vs ++ v ∷ []) n ≡ true = is_among_push vs v n ∙ ap (λ (b : Bool). is_among vs n || b) e.0 ∙ or-true (is_among vs n) in
+            let now : get_or (set marks v.0 mark) n 0 ≡ mark = ap (λ (k : ℕ). get_or (set marks v.0 mark) k 0) (sym e.1)
+            ∙ get_or-set_same marks v.0 mark 0 here in
+            let among : is_among (vs ++ v ∷ []) (named n) ≡ true = is_among_push vs v n
+            ∙ ap (λ (b : Bool). is_among vs (named n) || b) e.0 ∙ or-true (is_among vs (named n)) in
             eq-eqb (get_or (set marks v.0 mark) n 0) mark now ∙ sym among
         | inr e ↦
-            let now : get_or (set marks v.0 mark) n 0 ≡ get_or marks n 0 = get_or-set_other marks v.0 n mark 0 (λ s. e.1 (sym s)) in
-            let among : is_among (vs ++ v ∷ []) n ≡ is_among vs n = is_among_push vs v n ∙ ap (λ (b : Bool). is_among vs n || b) e.0 ∙ or-false (is_among vs n) in
+            let now : get_or (set marks v.0 mark) n 0 ≡ get_or marks n 0 =
+            get_or-set_other marks v.0 n mark 0 (λ s. e.1 (sym s)) in
+            let among : is_among (vs ++ v ∷ []) (named n) ≡ is_among vs (named n) = is_among_push vs v n
+            ∙ ap (λ (b : Bool). is_among vs (named n) || b) e.0 ∙ or-false (is_among vs (named n)) in
             ap (λ (m : ℕ). eqb m mark) now ∙ h.are n within ∙ sym among
       ];
 }
@@ -73,30 +93,41 @@ marked_more mark vs v marks here h = record {
 -- THE LOOP OVER INDICES
 
 -- one index more
-pub take_more_vert : (indices : List ℕ) (i x : ℕ) → i < length indices → get_or indices i 0 ≡ x → take (i + 1) (map vert_at indices) ≡ take i (map vert_at indices) ++ vert_at x ∷ []
+pub take_more_vert : (indices : List ℕ) (i x : ℕ) → i < length indices → get_or indices i 0 ≡ x
+    → take (i + 1) (map vert_at indices) ≡ take i (map vert_at indices) ++ vert_at x ∷ []
 take_more_vert indices i x here at =
     let within : i < length (map vert_at indices) = rw length-map here in
     take_more (map vert_at indices) i (vert_at x) within
-    ∙ ap (λ (v : VertName). take i (map vert_at indices) ++ v ∷ []) (get_or-map vert_at indices i 0 (vert_at x) here ∙ ap vert_at at)
+    ∙ ap (λ (v : VertName). take i (map vert_at indices) ++ v ∷ []) (get_or-map vert_at indices i 0 (vert_at x) here
+    ∙ ap vert_at at)
 
 -- a vertex that has the mark stands twice
-pub marked_twice : (mark : ℕ) (indices : List ℕ) (i x : ℕ) (marks : List ℕ) → i < length indices → get_or indices i 0 ≡ x → Marked mark (take i (map vert_at indices)) marks → (vert_at x).0 < length marks → get_or marks (vert_at x).0 0 ≡ mark → are_distinct (map vert_at indices) ≡ false
+pub marked_twice : (mark : ℕ) (indices : List ℕ) (i x : ℕ) (marks : List ℕ) → i < length indices
+    → get_or indices i 0 ≡ x → Marked mark (take i (map vert_at indices)) marks → (vert_at x).0 < length marks
+    → get_or marks (vert_at x).0 0 ≡ mark → are_distinct (map vert_at indices) ≡ false
 marked_twice mark indices i x marks here at h within found =
     let vs = map vert_at indices in
-    let among : is_among (take i vs) (vert_at x).0 ≡ true = sym (h.are (vert_at x).0 within) ∙ eq-eqb (get_or marks (vert_at x).0 0) mark found in
+    let among : is_among (take i vs) (vert_at x) ≡ true = sym (h.are (vert_at x).0 within)
+    ∙ eq-eqb (get_or marks (vert_at x).0 0) mark found in
     let some : are_distinct (take (i + 1) vs) ≡ false =
-    ap are_distinct (take_more_vert indices i x here at) ∙ distinct_push (take i vs) (vert_at x) ∙ ap (λ (b : Bool). are_distinct (take i vs) && not b) among ∙ and-false (are_distinct (take i vs)) in
+    ap are_distinct (take_more_vert indices i x here at) ∙ distinct_push (take i vs) (vert_at x)
+    ∙ ap (λ (b : Bool). are_distinct (take i vs) && not b) among ∙ and-false (are_distinct (take i vs)) in
     ap are_distinct (sym (take-append-drop (i + 1) vs)) ∙ repeats_grows (take (i + 1) vs) (drop (i + 1) vs) some
 
 -- a vertex that hasn't stands once so far
-pub marked_once : (mark : ℕ) (indices : List ℕ) (i x : ℕ) (marks : List ℕ) → i < length indices → get_or indices i 0 ≡ x → Marked mark (take i (map vert_at indices)) marks → are_distinct (take i (map vert_at indices)) ≡ true → (vert_at x).0 < length marks
+pub marked_once : (mark : ℕ) (indices : List ℕ) (i x : ℕ) (marks : List ℕ) → i < length indices → get_or indices i 0 ≡ x
+    → Marked mark (take i (map vert_at indices)) marks → are_distinct (take i (map vert_at indices)) ≡ true
+    → (vert_at x).0 < length marks
     → get_or marks (vert_at x).0 0 ≢ mark → are_distinct (take (i + 1) (map vert_at indices)) ≡ true
 marked_once mark indices i x marks here at h distinct within other =
     let vs = map vert_at indices in
-    let among : is_among (take i vs) (vert_at x).0 ≡ false = sym (h.are (vert_at x).0 within) ∙ differ_false (get_or marks (vert_at x).0 0) mark other in
-    ap are_distinct (take_more_vert indices i x here at) ∙ distinct_push (take i vs) (vert_at x) ∙ ap (λ (b : Bool). b && not (is_among (take i vs) (vert_at x).0)) distinct ∙ ap not among
+    let among : is_among (take i vs) (vert_at x) ≡ false = sym (h.are (vert_at x).0 within)
+    ∙ differ_false (get_or marks (vert_at x).0 0) mark other in
+    ap are_distinct (take_more_vert indices i x here at) ∙ distinct_push (take i vs) (vert_at x)
+    ∙ ap (λ (b : Bool). b && not (is_among (take i vs) (vert_at x))) distinct ∙ ap not among
 
-pub marked_next : (mark : ℕ) (indices : List ℕ) (i x : ℕ) (marks : List ℕ) → i < length indices → get_or indices i 0 ≡ x → Marked mark (take i (map vert_at indices)) marks → (vert_at x).0 < length marks
+pub marked_next : (mark : ℕ) (indices : List ℕ) (i x : ℕ) (marks : List ℕ) → i < length indices → get_or indices i 0 ≡ x
+    → Marked mark (take i (map vert_at indices)) marks → (vert_at x).0 < length marks
     → Marked mark (take (i + 1) (map vert_at indices)) (set marks (vert_at x).0 mark)
 marked_next mark indices i x marks here at h within =
     rw (take_more_vert indices i x here at) (marked_more mark (take i (map vert_at indices)) (vert_at x) marks within h)

@@ -1,5 +1,6 @@
 -- Lemmas on powers of ten.
-use Rattle.std.proofs.Common.{◌≡◌, ◌+◌, ◌≤◌, ◌<◌, ◌^◌, ℕ, ℤ, pos, negsuc, neg_ℤ, ◌*ℤ◌, ◌<ℤ◌, unsigned_abs, refl, arith, lit<}
+use Rattle.std.proofs.Common.{◌≡◌, ◌+◌, ◌≤◌, ◌<◌, ◌^◌, ℕ, ℤ, pos, negsuc, neg_ℤ, ◌*ℤ◌, ◌<ℤ◌, unsigned_abs, refl, arith}
+use Rattle.std.proofs.Common.{lit<}
 use Rattle.std.specs.Int.RustNames.{FitsSigned}
 use Rattle.std.proofs.lemmas.Int.{fits_signed_mul, ints}
 use mir.Syntax.{w64}
@@ -21,6 +22,7 @@ abs_below (pos m) above below = let same : unsigned_abs (pos m) ≡ m = refl in 
 abs_below (negsuc m) above below = let same : unsigned_abs (negsuc m) ≡ m + 1 = omega arith in omega (arith, ints)
 
 -- a number of at most 9 digits in units fits a signed word of 64 bits
-pub units_fit : (scale : ℕ) (n : ℤ) → scale ≤ 6 → neg_ℤ (pos (10 ^ 9)) <ℤ n → n <ℤ pos (10 ^ 9) → FitsSigned w64 (n *ℤ pos (10 ^ scale))
+pub units_fit : (scale : ℕ) (n : ℤ) → scale ≤ 6 → neg_ℤ (pos (10 ^ 9)) <ℤ n → n <ℤ pos (10 ^ 9)
+    → FitsSigned w64 (n *ℤ pos (10 ^ scale))
 units_fit scale n h above below =
     fits_signed_mul w64 n (pos (10 ^ scale)) (10 ^ 9) (10 ^ 6) (abs_below n above below) (unit_small scale h) (lit< tt)

@@ -1,19 +1,23 @@
 -- A Wavefront OBJ text as a complex.
-use Rattle.std.specs.Prelude.{ℕ, ℤ, pos, ◌*ℤ◌, ◌+◌, ◌-◌, ◌^◌, ◌&&◌, Bool, true, not, nat_lt, nat_le, if◌then◌else◌, List, [], ◌∷◌, map, length, take, is_some, codes, Result, Ok, Err}
+use Rattle.std.specs.Prelude.{ℕ, ℤ, pos, ◌*ℤ◌, ◌+◌, ◌-◌, ◌^◌, ◌&&◌, Bool, true, not, nat_lt, nat_le, if◌then◌else◌}
+use Rattle.std.specs.Prelude.{List, [], ◌∷◌, map, length, take, is_some, codes, Result, Ok, Err}
 use Rattle.std.specs.List.{list_all, fold, position, enumerate_from}
 use Rattle.std.specs.Option.{option_map}
 use Rattle.std.specs.declared.option.Option.{Option}
 use Rattle.std.specs.declared.option.Option.TheVariants.{None, Some}
 use Rattle.text_words.specs.Text.{lines, words, natural, integer, is_text}
 use Rattle.text_words.specs.Each.{each}
-use Rattle.plain_model.specs.Table.{at, passes}
-use Rattle.plain_model.specs.Complex.{Complex, no_complex, corner_sum}
-use Rattle.plain_model.specs.Making.{with_vert, with_ring}
-use Rattle.plain_model.specs.Valid.{is_on_grid, are_distinct}
-use Rattle.plain_model.specs.declared.names.VertName.{VertName}
-use Rattle.plain_model.specs.declared.records.VertRec.{VertRec}
+use Rattle.mesh_model.specs.Table.{at, passes}
+use Rattle.mesh_model.specs.Complex.{Complex, new_model}
+use Rattle.mesh_model.specs.Making.{with_vert, vert_at_point, with_face_told}
+use Rattle.mesh_model.specs.Room.{has_room}
+use Rattle.mesh_model.specs.Valid.{is_on_grid, are_distinct}
+use Rattle.mesh_model.specs.declared.limits.TheConstants.{MAX_VERTS, MIN_SIDES, MAX_SIDES}
+use Rattle.mesh_model.specs.declared.names.VertName.{VertName}
+use Rattle.mesh_model.specs.declared.draft.DraftCorner.{DraftCorner}
+use Rattle.mesh_model.specs.declared.records.VertRec.{VertRec}
 use Rattle.obj_text.specs.declared.reading.item.Item.{Item}
-use Rattle.obj_text.specs.declared.reading.item.Item.TheVariants.{Nothing, Vertex, Ring}
+use Rattle.obj_text.specs.declared.reading.item.Item.TheVariants.{Nothing, Vertex, Polygon}
 use Rattle.obj_text.specs.declared.obj_fault.ObjRefusal.{ObjRefusal}
 use Rattle.obj_text.specs.declared.obj_fault.ObjWhy.TheVariants.{NotYet}
 
@@ -31,14 +35,16 @@ abbrev pub vertex_item : ℕ → List (List ℕ) → Option Item
 vertex_item scale (x ∷ y ∷ z ∷ []) = vertex (coordinate scale x) (coordinate scale y) (coordinate scale z)
 vertex_item scale _ = None
 
--- numbers of at most 7 digits spell a ring
-abbrev pub ring_item : List (List ℕ) → Option Item
-ring_item words = option_map Ring (each (natural 7) words)
+-- numbers of at most 7 digits spell a polygon
+abbrev pub polygon_item : List (List ℕ) → Option Item
+polygon_item words = option_map Polygon (each (natural 7) words)
 
--- what the words of a line spell, whatever stands before it: nothing, `v` a vertex, `f` a ring
+-- what the words of a line spell, whatever stands before it: nothing, `v` a vertex, `f` a polygon
 abbrev pub item_of : ℕ → List (List ℕ) → Option Item
 item_of scale [] = Some Nothing
-item_of scale (word ∷ words) = if is_text (codes "v") word then vertex_item scale words else (if is_text (codes "f") word then ring_item words else None)
+item_of scale (word ∷ words) =
+    if is_text (codes "v") word then vertex_item scale words else
+    (if is_text (codes "f") word then polygon_item words else None)
 
 -- the vertex of an index, which counts from 1
 abbrev pub vert_at : ℕ → VertName
@@ -48,25 +54,28 @@ vert_at index = record { 0 = index - 1 }
 abbrev pub is_read : List (Option VertRec) → ℕ → Bool
 is_read verts index = nat_lt 0 index && is_some (at verts (index - 1))
 
--- the limits leave room for a face of so many corners
-abbrev pub has_room : Complex → ℕ → Bool
-has_room c n = nat_lt (length c.faces) 1048576 && (nat_le (length c.edges + n) 2097152 && nat_le (corner_sum c.faces + n) 4194304)
-
 -- a face may stand on these indices: 3 to 4,096 of them, of distinct vertices read so far, and there is room
-abbrev pub is_ring : Complex → List ℕ → Bool
-is_ring c indices = nat_le 3 (length indices) && (nat_le (length indices) 4096 && (list_all (is_read c.verts) indices && (are_distinct (map vert_at indices) && has_room c (length indices))))
+abbrev pub is_polygon : Complex → List ℕ → Bool
+is_polygon c indices =
+    nat_le MIN_SIDES (length indices)
+    && (nat_le (length indices) MAX_SIDES
+    && (list_all (is_read c.verts) indices && (are_distinct (map vert_at indices) && has_room c (length indices))))
 
 -- an item may be added: a point lies on the grid and there is room for it, a face may stand on its indices
 abbrev pub fits : Complex → Item → Bool
 fits c Nothing = true
-fits c (Vertex p) = is_on_grid p && nat_lt (length c.verts) 1048576
-fits c (Ring indices) = is_ring c indices
+fits c (Vertex p) = is_on_grid p && nat_lt (length c.verts) MAX_VERTS
+fits c (Polygon indices) = is_polygon c indices
 
--- the complex with an item more
+-- a corner at the vertex of an index, which lies nowhere in the texture
+abbrev pub corner_at : ℕ → DraftCorner
+corner_at index = record { vert = vert_at index; uv = pos 0 ∷ pos 0 ∷ [] }
+
+-- the complex with an item more; its values are 0
 abbrev pub with_item : Complex → Item → Complex
 with_item c Nothing = c
-with_item c (Vertex p) = with_vert c (record { point = p })
-with_item c (Ring indices) = with_ring c (map vert_at indices)
+with_item c (Vertex p) = with_vert c (vert_at_point c p)
+with_item c (Polygon indices) = with_face_told c (map corner_at indices) (pos 0) (pos 0)
 
 -- the complex with what a line spells, if it spells anything
 abbrev pub with_any : Complex → Option Item → Complex
@@ -75,7 +84,7 @@ with_any c (Some item) = with_item c item
 
 -- the complex of some lines, line after line
 abbrev pub complex_of : ℕ → List (List ℕ) → Complex
-complex_of scale lines = fold (λ c line. with_any c (item_of scale (words line))) no_complex lines
+complex_of scale lines = fold (λ c line. with_any c (item_of scale (words line))) new_model lines
 
 -- a line that stands after others is of the form: it spells an item, which may be added to what they make
 abbrev pub is_known : ℕ → List (List ℕ) → List ℕ → Bool
@@ -96,4 +105,5 @@ read_lines scale lines = lines_verdict scale lines (first_unknown scale lines)
 
 -- what a text reads as; one of more than 65,536 bytes is refused as a whole
 abbrev pub read_text : ℕ → List ℕ → Result Complex ObjRefusal
-read_text scale text = if nat_lt 65536 (length text) then Err (record { line = 0; why = NotYet }) else read_lines scale (lines text)
+read_text scale text =
+    if nat_lt 65536 (length text) then Err (record { line = 0; why = NotYet }) else read_lines scale (lines text)

@@ -1,6 +1,6 @@
 -- A table of the indices of vertices.
 use Rattle.std.specs.Prelude.{◌≡◌, ℕ, ◌<◌, List, length, get_or}
-use Rattle.plain_model.specs.Complex.{Complex}
+use Rattle.mesh_model.specs.Complex.{Complex}
 use Rattle.obj_text.specs.Written.{index}
 
 -- the entries are the indices of the vertices with a name below n

@@ -3,8 +3,6 @@ use Rattle.std.specs.Prelude.{◌≡◌, ℕ, ◌<◌, ◌≤◌, List, length}
 use Rattle.std.specs.List.{All}
 use Rattle.std.specs.declared.option.Option.{Option}
 use Rattle.std.specs.declared.option.Option.TheVariants.{None, Some}
-use Rattle.plain_model.specs.declared.draft.DraftCorner.{DraftCorner}
-use Rattle.obj_text.specs.Obj.{vert_at}
 
 -- a reader: the scale of its numbers, and the bytes fed so far, or None once memory ran out
 pub record Reading : Type 0 where
@@ -25,7 +23,3 @@ pub record AreMarks (verts bound : ℕ) (marks : List ℕ) : Type 0 where
   pub some : 0 < bound
   pub enough : verts ≤ length marks
   pub below : All (λ m. m < bound) marks
-
--- what a draft is told of the vertex of an index
-abbrev pub corner_at : ℕ → DraftCorner
-corner_at index = record { vert = vert_at index }

@@ -1,7 +1,9 @@
 -- The words and the numbers of the reasons.
 use Rattle.std.specs.Prelude.{ℕ, List, codes}
 use Rattle.obj_text.specs.declared.obj_fault.ObjWhy.{ObjWhy}
-use Rattle.obj_text.specs.declared.obj_fault.ObjWhy.TheVariants.{BadNumber, OffGrid, OutOfGrid, BadIndex, TooShort, TooLong, Repeated, UnknownWord, FreeForm, TooMany, TooLarge, NotText, NotYet}
+use Rattle.obj_text.specs.declared.obj_fault.ObjWhy.TheVariants.{BadNumber, OffGrid, OutOfGrid, BadIndex, TooShort}
+use Rattle.obj_text.specs.declared.obj_fault.ObjWhy.TheVariants.{TooLong, Repeated, UnknownWord, FreeForm, TooMany}
+use Rattle.obj_text.specs.declared.obj_fault.ObjWhy.TheVariants.{TooLarge, NotText, NotYet}
 
 -- a reason is printed as its name
 abbrev pub why_text : ObjWhy → List ℕ

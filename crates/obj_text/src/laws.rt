@@ -1,6 +1,7 @@
 //! Small texts, read and written by hand. The checker proves each statement, and no call does anything.
 
-ghost use Rattle.obj_text.specs.Rows.{SquareRead, ShortRead, WireRefused, IndicesRefused, LaterRefused, BlanksRead, NumbersRefused, ScalesRead, CutSquareWritten, SquareWritten, NumbersWritten};
+ghost use Rattle.obj_text.specs.Rows.{SquareRead, ShortRead, WireRefused, IndicesRefused, LaterRefused, BlanksRead};
+ghost use Rattle.obj_text.specs.Rows.{NumbersRefused, ScalesRead, CutSquareWritten, SquareWritten, NumbersWritten};
 
 /// Texts that are models.
 pub fn accepted()

@@ -3,7 +3,7 @@
 ghost use Rattle.std.specs.Prelude.{◌≡◌};
 ghost use Rattle.obj_text.specs.Words.{why_code};
 
-use plain_model::NoMemory as OutOfMemory;
+use mesh_model::NoMemory as OutOfMemory;
 use std::alloc::AllocFailed;
 use std::fmt;
 use thiserror::Error;

@@ -1,5 +1,7 @@
 -- Commands that are spelled out are read again.
-use Rattle.std.proofs.Common.{arith, ◌≡◌, ℕ, ◌+◌, ◌%◌, ◌^◌, ◌<◌, ◌≤◌, ◌==◌, ◌||◌, Bool, true, false, not, cond, nat_le, is_some, List, [], ◌∷◌, ◌++◌, length, map, codes, refl, ap, ◌∙◌, Option, Some, None, Result, Ok, Err, position, lit<, lit≤}
+use Rattle.std.proofs.Common.{arith, ◌≡◌, ℕ, ◌+◌, ◌%◌, ◌^◌, ◌<◌, ◌≤◌, ◌==◌, ◌||◌, Bool, true, false, not, cond, nat_le}
+use Rattle.std.proofs.Common.{is_some, List, [], ◌∷◌, ◌++◌, length, map, codes, refl, ap, ◌∙◌, Option, Some, None}
+use Rattle.std.proofs.Common.{Result, Ok, Err, position, lit<, lit≤}
 use Rattle.std.specs.List.{All, filter_map, enumerate_from, position_from, join_with_byte, list_all, cons_option}
 use Rattle.std.specs.Option.{option_map}
 use Rattle.std.specs.Fmt.{decimal}
@@ -11,22 +13,24 @@ use Rattle.std.proofs.lemmas.Iterator.Adapters.{position_from-zero}
 use Rattle.std.proofs.lemmas.Bool.{and_parts, leb-true, le-leb}
 use Rattle.std.proofs.lemmas.Bool.Decides.{nat_tests}
 use Rattle.std.proofs.lemmas.Fmt.{decimal_by_steps}
-use Rattle.plain_model.specs.declared.names.Elem.TheVariants.{Vert, Edge, Face}
-use Rattle.plain_model.specs.declared.slots.Term.{Term}
-use Rattle.plain_model.specs.declared.slots.Term.TheVariants.{One}
-use Rattle.plain_model.specs.declared.slots.Context.TheVariants.{Verts}
-use Rattle.plain_model.specs.declared.slots.Op.{Op}
-use Rattle.plain_model.specs.declared.slots.Op.TheVariants.{Delete}
-use Rattle.plain_model.specs.declared.slots.What.TheVariants.{Run}
-use Rattle.plain_model.specs.declared.slots.Command.{Command}
+use Rattle.mesh_model.specs.declared.names.Elem.TheVariants.{Vert, Edge, Face}
+use Rattle.mesh_model.specs.declared.slots.Term.{Term}
+use Rattle.mesh_model.specs.declared.slots.Term.TheVariants.{One}
+use Rattle.mesh_model.specs.declared.slots.Context.TheVariants.{Verts}
+use Rattle.mesh_model.specs.declared.slots.Op.{Op}
+use Rattle.mesh_model.specs.declared.slots.Op.TheVariants.{Delete}
+use Rattle.mesh_model.specs.declared.slots.What.TheVariants.{Run}
+use Rattle.mesh_model.specs.declared.slots.Command.{Command}
 use Rattle.text_words.specs.Each.{each, with_first}
 use Rattle.text_words.specs.Text.{lines, parts_of}
 use Rattle.text_words.proofs.NumberLemmas.{natural-decimal}
-use Rattle.script_text.specs.Script.{vert_term, terms_of, terms_of_words, op_of, command_of, is_unknown, command_at, unless_unknown, script_of}
+use Rattle.script_text.specs.Script.{vert_term, terms_of, terms_of_words, op_of, command_of, is_unknown, command_at}
+use Rattle.script_text.specs.Script.{unless_unknown, script_of}
 use Rattle.script_text.specs.declared.script.Script.{Script}
 use Rattle.script_text.specs.declared.fault.ScriptRefusal.{ScriptRefusal}
 use Rattle.script_text.specs.declared.fault.ScriptWhy.TheVariants.{NotYet}
-use Rattle.script_text.specs.Spelling.{term_text, op_text, line_text, text_of, commands_after, IsShortVert, AreShortVerts, IsSpellable, AreSpellable}
+use Rattle.script_text.specs.Spelling.{term_text, op_text, line_text, text_of, commands_after, IsShortVert}
+use Rattle.script_text.specs.Spelling.{AreShortVerts, IsSpellable, AreSpellable}
 use Rattle.script_text.proofs.TermLemmas.{terms_of_words-few}
 
 -- BYTES
@@ -162,7 +166,8 @@ no_unknown k (Some op ∷ ls) h =
 
 -- what stands on a line, before the commands of the others
 abbrev with_command : ℕ → List Command → Option Op → List Command
-with_command k rest op = cons_option (option_map (λ (o : Op). record { line = k + 1; what = Run o }) op) rest
+with_command k rest op =
+    cons_option (option_map (λ (o : Op). record { line = k + 1; bind = None; what = Run o }) op) rest
 
 read_commands : (k : ℕ) (ls : List (Option Op)) → AreSpellable ls
     → filter_map command_at (enumerate_from k (all_lines ls)) ≡ commands_after k ls
@@ -170,14 +175,15 @@ read_commands k [] h = refl
 read_commands k (None ∷ ls) h = read_commands (k + 1) ls h
 read_commands k (Some op ∷ ls) h =
     ap (with_command k (filter_map command_at (enumerate_from (k + 1) (all_lines ls)))) (read_op op h.0)
-    ∙ ap (λ (rest : List Command). record { line = k + 1; what = Run op } ∷ rest) (read_commands (k + 1) ls h.1)
+    ∙ ap (λ (rest : List Command). record { line = k + 1; bind = None; what = Run op } ∷ rest)
+    (read_commands (k + 1) ls h.1)
 
 -- what lines are as a script
 abbrev script_lines : List (List ℕ) → Result Script ScriptRefusal
 script_lines ls = unless_unknown (position is_unknown ls) (filter_map command_at (enumerate_from 0 ls))
 
 pub commands_return : (ls : List (Option Op)) → AreSpellable ls → length (text_of ls) ≤ 65536
-    → script_of (text_of ls) ≡ Ok (record { commands = commands_after 0 ls })
+    → script_of (text_of ls) ≡ Ok (record { layers = []; commands = commands_after 0 ls })
 commands_return ls h short =
     ap (λ (b : Bool). cond b (script_lines (lines (text_of ls))) (Err (record { line = 0; why = NotYet })))
     (le-leb (length (text_of ls)) 65536 short)

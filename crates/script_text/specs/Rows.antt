@@ -1,12 +1,13 @@
 -- What some small scripts are.
 use Rattle.std.specs.Prelude.{◌≡◌, ℕ, List, [], ◌∷◌, ◌++◌, codes, Result, Ok, Err}
-use Rattle.plain_model.specs.declared.names.Elem.TheVariants.{Vert}
-use Rattle.plain_model.specs.declared.slots.Term.{Term}
-use Rattle.plain_model.specs.declared.slots.Term.TheVariants.{One}
-use Rattle.plain_model.specs.declared.slots.Context.TheVariants.{Verts}
-use Rattle.plain_model.specs.declared.slots.Op.TheVariants.{Delete}
-use Rattle.plain_model.specs.declared.slots.What.TheVariants.{Run}
-use Rattle.plain_model.specs.declared.slots.Command.{Command}
+use Rattle.std.specs.declared.option.Option.TheVariants.{None}
+use Rattle.mesh_model.specs.declared.names.Elem.TheVariants.{Vert}
+use Rattle.mesh_model.specs.declared.slots.Term.{Term}
+use Rattle.mesh_model.specs.declared.slots.Term.TheVariants.{One}
+use Rattle.mesh_model.specs.declared.slots.Context.TheVariants.{Verts}
+use Rattle.mesh_model.specs.declared.slots.Op.TheVariants.{Delete}
+use Rattle.mesh_model.specs.declared.slots.What.TheVariants.{Run}
+use Rattle.mesh_model.specs.declared.slots.Command.{Command}
 use Rattle.script_text.specs.declared.script.Script.{Script}
 use Rattle.script_text.specs.declared.fault.ScriptRefusal.{ScriptRefusal}
 use Rattle.script_text.specs.declared.fault.ScriptWhy.TheVariants.{NotYet}
@@ -18,11 +19,11 @@ vert n = One (Vert (record { 0 = n }))
 
 -- the command that deletes vertices, on a line
 abbrev pub delete_at : ℕ → List Term → Command
-delete_at n ts = record { line = n; what = Run (Delete ts Verts) }
+delete_at n ts = record { line = n; bind = None; what = Run (Delete ts Verts) }
 
 -- a text of these commands
 abbrev pub script : List Command → Result Script ScriptRefusal
-script cs = Ok (record { commands = cs })
+script cs = Ok (record { layers = []; commands = cs })
 
 -- a text with a line that isn't of the form
 abbrev pub refused_at : ℕ → Result Script ScriptRefusal

@@ -3,15 +3,15 @@ use Rattle.std.specs.Prelude.{◌≡◌, ℕ, ◌+◌, ◌^◌, ◌<◌, ◌≤�
 use Rattle.std.specs.List.{join_with_byte}
 use Rattle.std.specs.declared.option.Option.{Option}
 use Rattle.std.specs.declared.option.Option.TheVariants.{None, Some}
-use Rattle.plain_model.specs.Words.{elem_text}
-use Rattle.plain_model.specs.declared.names.Elem.TheVariants.{Vert, Edge, Face}
-use Rattle.plain_model.specs.declared.slots.Term.{Term}
-use Rattle.plain_model.specs.declared.slots.Term.TheVariants.{One}
-use Rattle.plain_model.specs.declared.slots.Context.TheVariants.{Verts}
-use Rattle.plain_model.specs.declared.slots.Op.{Op}
-use Rattle.plain_model.specs.declared.slots.Op.TheVariants.{Delete}
-use Rattle.plain_model.specs.declared.slots.What.TheVariants.{Run}
-use Rattle.plain_model.specs.declared.slots.Command.{Command}
+use Rattle.mesh_model.specs.Words.{elem_text}
+use Rattle.mesh_model.specs.declared.names.Elem.TheVariants.{Vert, Edge, Face}
+use Rattle.mesh_model.specs.declared.slots.Term.{Term}
+use Rattle.mesh_model.specs.declared.slots.Term.TheVariants.{One}
+use Rattle.mesh_model.specs.declared.slots.Context.TheVariants.{Verts}
+use Rattle.mesh_model.specs.declared.slots.Op.{Op}
+use Rattle.mesh_model.specs.declared.slots.Op.TheVariants.{Delete}
+use Rattle.mesh_model.specs.declared.slots.What.TheVariants.{Run}
+use Rattle.mesh_model.specs.declared.slots.Command.{Command}
 use Rattle.script_text.specs.Script.{script_of}
 
 -- a term is spelled as its element
@@ -37,7 +37,7 @@ text_of (line ∷ lines) = line_text line ++ 10 ∷ text_of lines
 abbrev pub commands_after : ℕ → List (Option Op) → List Command
 commands_after k [] = []
 commands_after k (None ∷ lines) = commands_after (k + 1) lines
-commands_after k (Some op ∷ lines) = record { line = k + 1; what = Run op } ∷ commands_after (k + 1) lines
+commands_after k (Some op ∷ lines) = record { line = k + 1; bind = None; what = Run op } ∷ commands_after (k + 1) lines
 
 -- a vertex whose number has at most nine digits
 abbrev pub IsShortVert : Term → Type 0
@@ -63,4 +63,4 @@ AreSpellable (Some op ∷ lines) = IsSpellable op × AreSpellable lines
 -- commands that are spelled out, line after line, are read again
 abbrev pub CommandsReturn : Type 0
 CommandsReturn = (lines : List (Option Op)) → AreSpellable lines → length (text_of lines) ≤ 65536
-    → script_of (text_of lines) ≡ Ok (record { commands = commands_after 0 lines })
+    → script_of (text_of lines) ≡ Ok (record { layers = []; commands = commands_after 0 lines })

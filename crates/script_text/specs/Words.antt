@@ -1,7 +1,9 @@
 -- The words and the numbers of the reasons.
 use Rattle.std.specs.Prelude.{ℕ, List, codes}
 use Rattle.script_text.specs.declared.fault.ScriptWhy.{ScriptWhy}
-use Rattle.script_text.specs.declared.fault.ScriptWhy.TheVariants.{NotText, UnknownWord, MissingArgument, TwiceGiven, BadNumber, BadExpression, Rebound, TooMany, LateLayer, TooLarge, BadLayer, NotYet}
+use Rattle.script_text.specs.declared.fault.ScriptWhy.TheVariants.{NotText, UnknownWord, MissingArgument, TwiceGiven}
+use Rattle.script_text.specs.declared.fault.ScriptWhy.TheVariants.{BadNumber, BadExpression, Rebound, TooMany}
+use Rattle.script_text.specs.declared.fault.ScriptWhy.TheVariants.{LateLayer, TooLarge, BadLayer, NotYet}
 
 -- the word that a report has for a reason
 abbrev pub why_text : ScriptWhy → List ℕ

@@ -3,8 +3,8 @@ ghost use Rattle.std.specs.Prelude.{◌≡◌, map, codes, IfOk};
 ghost use Rattle.script_text.specs.Script.{is_delete, delete_of, op_of, command_of};
 
 use crate::terms::terms_of;
-use plain_model::NoMemory;
-use plain_model::slots::{Context, Op};
+use mesh_model::NoMemory;
+use mesh_model::slots::{Context, Op};
 use std::alloc::Global;
 use text_words::{is_text, parts};
 

@@ -8,8 +8,8 @@ ghost use Rattle.text_words.specs.Verdict.{Answers};
 use crate::fault::{ScriptFault, ScriptRefusal, ScriptWhy};
 use crate::line::command_of;
 use crate::script::Script;
-use plain_model::Sequence;
-use plain_model::slots::{Command, What};
+use mesh_model::Sequence;
+use mesh_model::slots::{Command, What};
 use std::alloc::Global;
 
 /// The most bytes that a script may have.
@@ -45,12 +45,14 @@ fn script_of_lines(alloc: Global, lines: &[&[u8]]) -> Result<Script, ScriptFault
         match command_of(alloc, line)? {
             Some(op) => commands.push(Command {
                 line: number,
+                bind: None,
                 what: What::Run(op),
             })?,
             None => return Err(not_yet(number)),
         }
     }
-    Ok(Script { commands })
+    let layers = Sequence::new(alloc);
+    Ok(Script { layers, commands })
 }
 
 fn not_yet(line: u32) -> ScriptFault

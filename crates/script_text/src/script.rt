@@ -1,10 +1,11 @@
 //! What a script is.
 
-use plain_model::Sequence;
-use plain_model::slots::Command;
+use mesh_model::slots::Command;
+use mesh_model::{LayerDecl, Sequence};
 
-/// A script: its commands in the order written, each with the number of its line.
+/// A script: the layers that it declares and its commands, each in the order written.
 #[derive(Debug, Drop)]
 pub struct Script {
+    pub layers: Sequence<LayerDecl>,
     pub commands: Sequence<Command>,
 }

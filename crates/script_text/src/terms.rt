@@ -3,8 +3,8 @@ ghost use Rattle.std.specs.Prelude.{◌≡◌, ◌<◌, ◌^◌, map, IfOk};
 ghost use Rattle.text_words.specs.Each.{each};
 ghost use Rattle.script_text.specs.Script.{vert_term, terms_of_words, terms_of};
 
-use plain_model::slots::{Expr, Term};
-use plain_model::{Elem, NoMemory, VertName};
+use mesh_model::slots::{Expr, Term};
+use mesh_model::{Elem, NoMemory, VertName};
 use std::alloc::Global;
 use text_words::{natural, parts};
 

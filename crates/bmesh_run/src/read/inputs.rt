@@ -1,7 +1,7 @@
 //! The model and the script, read and judged.
 
 ghost use Rattle.std.specs.Prelude.{◌≡◌, ℕ, true, false, Some, IfOk};
-ghost use Rattle.plain_model.specs.Valid.{IsSound};
+ghost use Rattle.mesh_model.specs.Valid.{IsSound};
 ghost use Rattle.obj_text.specs.Obj.{read_text};
 ghost use Rattle.script_text.specs.Script.{script_of};
 ghost use Rattle.worlds.specs.Files.{Files};
@@ -12,8 +12,8 @@ ghost use Rattle.bmesh_run.specs.Whole.{OnlyReads};
 
 use crate::read::whole_file::read_all;
 use crate::stop::Stop;
+use mesh_model::Draft;
 use obj_text::{ObjFault, ObjRefusal, ObjWhy, Reader};
-use plain_model::Draft;
 use script_text::{Script, ScriptFault, ScriptRefusal, ScriptWhy, parse};
 use std::alloc::Global;
 use text_words::is_text;
@@ -38,7 +38,8 @@ pub fn read_model<W: World>(
     ensures still { is_grid name.now ≡ true → W.told world.new ≡ W.told world.old }
     ensures only { OnlyReads (W.told world.old) (W.told world.new) }
     ensures asked { AsksBefore result (model_starts name.now) (W.told world.old) (W.told world.new) }
-    ensures left { is_grid name.now ≡ false → LeavesRest result (W.told world.old) (W.told world.new) name.now model_most }
+    ensures left { is_grid name.now ≡ false
+        → LeavesRest result (W.told world.old) (W.told world.new) name.now model_most }
     ensures cause { CausesStop result (W.told world.old) (W.told world.new) }
 {
     if is_grid(name) {
@@ -77,11 +78,13 @@ pub fn read_script<W: World>(
     world: &mut W,
     name: &str,
 ) -> Result<Script, Stop<ScriptRefusal>>
-    ensures judged { (files : Files) → (W.told world.old).files ≡ Some files → Judges result (script_named name.now files) }
+    ensures judged { (files : Files) → (W.told world.old).files ≡ Some files
+        → Judges result (script_named name.now files) }
     ensures still { is_tour name.now ≡ true → W.told world.new ≡ W.told world.old }
     ensures only { OnlyReads (W.told world.old) (W.told world.new) }
     ensures asked { AsksBefore result (script_starts name.now) (W.told world.old) (W.told world.new) }
-    ensures left { is_tour name.now ≡ false → LeavesRest result (W.told world.old) (W.told world.new) name.now script_most }
+    ensures left { is_tour name.now ≡ false
+        → LeavesRest result (W.told world.old) (W.told world.new) name.now script_most }
     ensures cause { CausesStop result (W.told world.old) (W.told world.new) }
 {
     if is_tour(name) {

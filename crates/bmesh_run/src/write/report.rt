@@ -3,13 +3,15 @@
 ghost use Rattle.std.specs.Prelude.{◌≡◌, ◌++◌, ◌&&◌, length, is_some, IfOk};
 ghost use Rattle.std.specs.String.{string_bytes};
 ghost use Rattle.std.specs.List.{count_by, list_any, flat_map};
-ghost use Rattle.plain_model.specs.Table.{at, live};
-ghost use Rattle.plain_model.specs.Incidence.{is_loose};
-ghost use Rattle.bmesh_run.specs.Report.{reply_line, reply_lines, refused_line, done_line, is_refused, loose_count, element_counts, command_counts, end_line, report};
+ghost use Rattle.mesh_model.specs.Table.{at, live};
+ghost use Rattle.mesh_model.specs.Incidence.{is_loose};
+ghost use Rattle.bmesh_run.specs.Report.{count_line, reply_line, reply_lines, refused_line, done_line, is_refused};
+ghost use Rattle.bmesh_run.specs.Report.{loose_count};
+ghost use Rattle.bmesh_run.specs.Report.{element_counts, command_counts, end_line, report};
 
+use mesh_model::slots::{Command, Slots};
+use mesh_model::{EdgeName, Elem, FaceName, NoMemory, Place, Refusal, Shape, VertName};
 use mesh_session::{Reply, Session};
-use plain_model::slots::{Command, Slots};
-use plain_model::{EdgeName, Elem, FaceName, NoMemory, Place, Refusal, Shape, VertName};
 use std::alloc::Global;
 
 /// The report of some commands by their replies and the session after them.
@@ -77,11 +79,26 @@ fn reply_line(alloc: Global, line: u32, reply: &Reply) -> Result<String, NoMemor
 fn done_line(alloc: Global, line: u32, slots: &Slots) -> Result<String, NoMemory>
     ensures { IfOk result (λ t. string_bytes t ≡ done_line line slots.now) }
 {
-    let verts = slots.geom.verts.len();
-    let edges = slots.geom.edges.len();
-    let faces = slots.geom.faces.len();
-    let text = format!(in alloc; "{line} done verts={verts} edges={edges} faces={faces}\n")?;
-    Ok(text)
+    let geom = &slots.geom;
+    count_line(
+        alloc,
+        line,
+        geom.verts().len(),
+        geom.edges().len(),
+        geom.faces().len(),
+    )
+}
+
+fn count_line(
+    alloc: Global,
+    line: u32,
+    verts: usize,
+    edges: usize,
+    faces: usize,
+) -> Result<String, NoMemory>
+    ensures { IfOk result (λ t. string_bytes t ≡ count_line line verts edges faces) }
+{
+    format!(in alloc; "{line} done verts={verts} edges={edges} faces={faces}\n")
 }
 
 fn refused_line(alloc: Global, line: u32, refusal: Refusal) -> Result<String, NoMemory>
@@ -181,7 +198,7 @@ fn loose_count<S: Shape>(shape: &S) -> u32
 
 // Whether an edge is there and has no corner.
 fn is_wire<S: Shape>(shape: &S, e: EdgeName) -> bool
-    ensures { result ≡ (is_some (at (S.complex shape.now).edges e.0) && is_loose (S.complex shape.now) e.0) }
+    ensures { result ≡ (is_some (at (S.complex shape.now).edges e.0) && is_loose (S.complex shape.now) e) }
 {
     shape.has(Elem::Edge(e)) && shape.is_loose(e)
 }

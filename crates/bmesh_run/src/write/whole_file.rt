@@ -1,6 +1,6 @@
 ghost use Rattle.std.specs.Prelude.{◌≡◌, OnOk, Some};
 ghost use Rattle.std.specs.Option.{option_map};
-ghost use Rattle.plain_model.specs.Valid.{IsValid};
+ghost use Rattle.mesh_model.specs.Valid.{IsValid};
 ghost use Rattle.byte_sink.specs.Wrote.{with_after};
 ghost use Rattle.obj_text.specs.Written.{text};
 ghost use Rattle.worlds.specs.Files.{put};
@@ -8,8 +8,8 @@ ghost use Rattle.worlds.specs.Told.{asked};
 ghost use Rattle.bmesh_run.specs.Whole.{MakesPart, OnlyWrites, GainsStart, PrintsPart, CausesOut};
 ghost use Rattle.worlds.specs.declared.start.Purpose.TheVariants.{Writing};
 
+use mesh_model::Shape;
 use obj_text::write;
-use plain_model::Shape;
 use std::alloc::Global;
 use worlds::{World, WorldFault};
 
@@ -59,7 +59,10 @@ pub fn begin_file<W: World, S: Shape>(
 
 /// Prints all the bytes. A fault may leave a prefix of them.
 pub fn print_all<W: World>(world: &mut W, bytes: &[u8]) -> Result<(), WorldFault>
-    ensures ok { OnOk result (W.told world.new ≡ record (W.told world.old) { printed = with_after (W.told world.old).printed bytes.now }) }
+    ensures ok { OnOk result (W.told world.new ≡ record (W.told world.old) {
+      printed =
+          with_after (W.told world.old).printed bytes.now;
+    }) }
     ensures part { PrintsPart (W.told world.old) (W.told world.new) bytes.now }
     ensures cause { CausesOut result (W.told world.old) (W.told world.new) }
 {

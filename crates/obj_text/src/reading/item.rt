@@ -1,6 +1,6 @@
 //! What a line spells.
 
-use plain_model::{Point, Sequence};
+use mesh_model::{Point, Sequence};
 
 /// What the words of a line spell, whatever stands before it.
 #[derive(Debug, Drop)]
@@ -10,5 +10,5 @@ pub enum Item {
     /// A vertex at a point.
     Vertex(Point),
     /// A face, by the indices of its vertices in order.
-    Ring(Sequence<u32>),
+    Polygon(Sequence<u32>),
 }

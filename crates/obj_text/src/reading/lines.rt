@@ -1,16 +1,16 @@
 //! A line of a model.
-ghost use Rattle.std.specs.Prelude.{◌≡◌, ◌+◌, ◌<◌, ◌≤◌, ◌&&◌, nat_lt, true, Ok, length, IfOk};
+ghost use Rattle.std.specs.Prelude.{◌≡◌, ◌+◌, ◌≤◌, true, Ok, length, IfOk};
 ghost use Rattle.text_words.specs.Text.{words};
-ghost use Rattle.plain_model.specs.Table.{passes};
-ghost use Rattle.plain_model.specs.Making.{with_vert};
-ghost use Rattle.plain_model.specs.Valid.{is_coordinate, is_on_grid};
+ghost use Rattle.mesh_model.specs.Table.{passes};
+ghost use Rattle.mesh_model.specs.Valid.{IsSound};
 ghost use Rattle.obj_text.specs.Obj.{item_of, fits, with_item, with_any};
 ghost use Rattle.obj_text.specs.Reading.{AreMarks};
 
-use crate::reading::faces::add_ring;
+use crate::reading::faces::add_polygon;
 use crate::reading::item::Item;
 use crate::reading::spelling::item_of;
-use plain_model::{Draft, NoMemory, Point, Shape};
+use mesh_model::limits::MAX_VERTS;
+use mesh_model::{Draft, NoMemory, Point, Shape};
 use std::alloc::Global;
 
 /// Adds what a line says to the draft of the lines before it, and answers whether it is of a form
@@ -27,6 +27,7 @@ pub fn read_line(
     requires marks { AreMarks (length draft.old.verts) number marks.old.items }
     ensures known { IfOk result (λ known. known ≡ passes (fits draft.old) (item_of scale (words line.now))) }
     ensures read { result ≡ Ok true → draft.new ≡ with_any draft.old (item_of scale (words line.now)) }
+    ensures sound { result ≡ Ok true → IsSound draft.old → IsSound draft.new }
     ensures marks { result ≡ Ok true → AreMarks (length draft.new.verts) (number + 1) marks.new.items }
 {
     match item_of(alloc, scale, line)? {
@@ -45,12 +46,13 @@ fn add_item(
     requires { AreMarks (length draft.old.verts) number marks.old.items }
     ensures known { IfOk result (λ known. known ≡ fits draft.old item) }
     ensures read { result ≡ Ok true → draft.new ≡ with_item draft.old item }
+    ensures sound { result ≡ Ok true → IsSound draft.old → IsSound draft.new }
     ensures marks { result ≡ Ok true → AreMarks (length draft.new.verts) (number + 1) marks.new.items }
 {
     match item {
         Item::Nothing => Ok(true),
         Item::Vertex(p) => add_vertex(draft, marks, number, p),
-        Item::Ring(indices) => add_ring(alloc, draft, marks, number, indices.as_slice()),
+        Item::Polygon(indices) => add_polygon(alloc, draft, marks, number, indices.as_slice()),
     }
 }
 
@@ -62,29 +64,18 @@ fn add_vertex(
     p: Point,
 ) -> Result<bool, NoMemory>
     requires { AreMarks (length draft.old.verts) number marks.old.items }
-    ensures known { IfOk result (λ known. known ≡ (is_on_grid p && nat_lt (length draft.old.verts) 1048576)) }
-    ensures added { result ≡ Ok true → draft.new ≡ with_vert draft.old (record { point = p }) }
+    ensures known { IfOk result (λ known. known ≡ fits draft.old (Item.Vertex p)) }
+    ensures added { result ≡ Ok true → draft.new ≡ with_item draft.old (Item.Vertex p) }
+    ensures sound { result ≡ Ok true → IsSound draft.old → IsSound draft.new }
     ensures marks { result ≡ Ok true → AreMarks (length draft.new.verts) number marks.new.items }
 {
-    if !is_on_grid(p) {
+    if !p.is_on_grid() {
         return Ok(false);
     }
-    if 1_048_576 <= draft.counters().verts {
+    if MAX_VERTS <= draft.counters().verts {
         return Ok(false);
     }
     marks.push(0)?;
     draft.add_vert(p)?;
     Ok(true)
-}
-
-fn is_on_grid(p: Point) -> bool
-    ensures { result ≡ is_on_grid p }
-{
-    is_coordinate(p.x) && (is_coordinate(p.y) && is_coordinate(p.z))
-}
-
-fn is_coordinate(x: i64) -> bool
-    ensures { result ≡ is_coordinate x }
-{
-    -1_000_000_000 <= x && x <= 1_000_000_000
 }

@@ -1,7 +1,7 @@
 //! Marks on the vertices of a face, which show whether one stands twice.
 ghost use Rattle.std.specs.Prelude.{◌≡◌, ◌+◌, ◌<◌, ◌≤◌, length, map};
 ghost use Rattle.std.specs.List.{All};
-ghost use Rattle.plain_model.specs.Valid.{are_distinct};
+ghost use Rattle.mesh_model.specs.Valid.{are_distinct};
 ghost use Rattle.obj_text.specs.Obj.{vert_at};
 
 /// Whether no vertex stands twice among those of some indices. Each is marked with a number that

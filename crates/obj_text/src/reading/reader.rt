@@ -1,6 +1,6 @@
 //! A model read piece by piece.
 ghost use Rattle.std.specs.Prelude.{◌≡◌, ◌≤◌, ◌++◌, ℕ, List, Err, [], length, IfOk, OnOk, OnErr, IsErr};
-ghost use Rattle.plain_model.specs.Valid.{IsSound};
+ghost use Rattle.mesh_model.specs.Valid.{IsSound};
 ghost use Rattle.text_words.specs.Text.{lines};
 ghost use Rattle.text_words.specs.Verdict.{Answers};
 ghost use Rattle.obj_text.specs.Faults.{refusal_of};
@@ -9,7 +9,7 @@ ghost use Rattle.obj_text.specs.Reading.{IsFed, IsLost};
 
 use crate::obj_fault::{ObjFault, ObjRefusal, ObjWhy};
 use crate::reading::lines::read_line;
-use plain_model::{Draft, NoMemory};
+use mesh_model::{Draft, NoMemory};
 use std::alloc::{AllocError, Global};
 use std::marker::Model;
 use text_words::lines;

@@ -3,10 +3,10 @@ ghost use Rattle.std.specs.Prelude.{◌≡◌, ◌≤◌, ◌<◌, ◌^◌, ◌*
 ghost use Rattle.std.specs.Option.{option_map};
 ghost use Rattle.text_words.specs.Text.{words, natural};
 ghost use Rattle.text_words.specs.Each.{each};
-ghost use Rattle.obj_text.specs.Obj.{coordinate, vertex, vertex_item, ring_item, item_of};
+ghost use Rattle.obj_text.specs.Obj.{coordinate, vertex, vertex_item, polygon_item, item_of};
 
 use crate::reading::item::Item;
-use plain_model::{NoMemory, Point, Sequence};
+use mesh_model::{NoMemory, Point, Sequence};
 use std::alloc::Global;
 use text_words::{integer, is_text, natural, words};
 
@@ -29,7 +29,7 @@ fn item_of_words(alloc: Global, scale: u8, words: &[&[u8]]) -> Result<Option<Ite
             if is_text(b"v", first) {
                 Ok(vertex_item(scale, rest))
             } else if is_text(b"f", first) {
-                ring_item(alloc, rest)
+                polygon_item(alloc, rest)
             } else {
                 Ok(None)
             }
@@ -78,11 +78,11 @@ fn in_units(scale: u8, n: i64) -> i64
     n * 10u64.pow(scale as u32) as i64
 }
 
-fn ring_item(alloc: Global, words: &[&[u8]]) -> Result<Option<Item>, NoMemory>
-    ensures { IfOk result (λ o. o ≡ ring_item (map (λ w. w.now) words.now)) }
+fn polygon_item(alloc: Global, words: &[&[u8]]) -> Result<Option<Item>, NoMemory>
+    ensures { IfOk result (λ o. o ≡ polygon_item (map (λ w. w.now) words.now)) }
 {
     match indices_of(alloc, words)? {
-        Some(indices) => Ok(Some(Item::Ring(Sequence::from(indices)))),
+        Some(indices) => Ok(Some(Item::Polygon(Sequence::from(indices)))),
         None => Ok(None),
     }
 }

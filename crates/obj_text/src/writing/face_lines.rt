@@ -1,13 +1,13 @@
 //! The lines of the faces.
 ghost use Rattle.std.specs.Prelude.{◌≡◌, IfOk};
 ghost use Rattle.std.specs.String.{string_bytes};
-ghost use Rattle.plain_model.specs.Complex.{Complex, corners_of};
-ghost use Rattle.plain_model.specs.Table.{at, IsThere};
-ghost use Rattle.plain_model.specs.Valid.{IsLinked};
+ghost use Rattle.mesh_model.specs.Complex.{Complex, corners_of};
+ghost use Rattle.mesh_model.specs.Table.{at, IsThere};
+ghost use Rattle.mesh_model.specs.Valid.{IsLinked};
 ghost use Rattle.obj_text.specs.Written.{corner_words, face_line, face_lines};
 ghost use Rattle.obj_text.specs.Ranks.{AreIndices};
 
-use plain_model::{Elem, FaceName, NoMemory, Shape};
+use mesh_model::{Elem, FaceName, NoMemory, Shape};
 use std::alloc::Global;
 
 /// A line `f A B C ..` for each face, by rising name.
@@ -36,7 +36,8 @@ fn face_line<S: Shape>(
     requires linked { IsLinked (S.complex shape.now) }
     requires indices { AreIndices (S.complex shape.now) indices.now }
     requires there { IsThere (S.complex shape.now).faces f.0 }
-    ensures { IfOk result (λ t. string_bytes t ≡ face_line (S.complex shape.now) (corners_of (at (S.complex shape.now).faces f.0))) }
+    ensures { IfOk result (λ t. string_bytes t
+        ≡ face_line (S.complex shape.now) (corners_of (at (S.complex shape.now).faces f.0))) }
 {
     let words = corner_words(alloc, shape, indices, f)?;
     format!(in alloc; "f{words}\n")
@@ -51,7 +52,8 @@ fn corner_words<S: Shape>(
     requires linked { IsLinked (S.complex shape.now) }
     requires indices { AreIndices (S.complex shape.now) indices.now }
     requires there { IsThere (S.complex shape.now).faces f.0 }
-    ensures { IfOk result (λ t. string_bytes t ≡ corner_words (S.complex shape.now) (corners_of (at (S.complex shape.now).faces f.0))) }
+    ensures { IfOk result (λ t. string_bytes t
+        ≡ corner_words (S.complex shape.now) (corners_of (at (S.complex shape.now).faces f.0))) }
 {
     let mut out = String::new(alloc);
     for i in 0..shape.corner_count(f) {

@@ -1,13 +1,13 @@
 //! The lines of the edges that no face has.
 ghost use Rattle.std.specs.Prelude.{◌≡◌, IfOk};
 ghost use Rattle.std.specs.String.{string_bytes};
-ghost use Rattle.plain_model.specs.Complex.{Complex};
-ghost use Rattle.plain_model.specs.Table.{at};
-ghost use Rattle.plain_model.specs.Valid.{IsLinked};
+ghost use Rattle.mesh_model.specs.Complex.{Complex};
+ghost use Rattle.mesh_model.specs.Table.{at};
+ghost use Rattle.mesh_model.specs.Valid.{IsLinked};
 ghost use Rattle.obj_text.specs.Written.{loose_line, loose_entry, loose_lines};
 ghost use Rattle.obj_text.specs.Ranks.{AreIndices};
 
-use plain_model::{EdgeName, Elem, NoMemory, Shape};
+use mesh_model::{EdgeName, Elem, NoMemory, Shape};
 use std::alloc::Global;
 
 /// A line `l A B` for each edge that no face has, by rising name.
@@ -33,7 +33,8 @@ fn loose_entry<S: Shape>(
 ) -> Result<String, NoMemory>
     requires linked { IsLinked (S.complex shape.now) }
     requires indices { AreIndices (S.complex shape.now) indices.now }
-    ensures { IfOk result (λ t. string_bytes t ≡ loose_entry (S.complex shape.now) (e.0, at (S.complex shape.now).edges e.0)) }
+    ensures { IfOk result (λ t. string_bytes t
+        ≡ loose_entry (S.complex shape.now) (e.0, at (S.complex shape.now).edges e.0)) }
 {
     if !shape.has(Elem::Edge(e)) || !shape.is_loose(e) {
         return Ok(String::new(alloc));

@@ -3,7 +3,7 @@ ghost use Rattle.std.specs.Prelude.{◌≡◌, ◌≤◌, IfOk};
 ghost use Rattle.std.specs.String.{string_bytes};
 ghost use Rattle.obj_text.specs.Written.{wide_decimal, magnitude, grid_number};
 
-use plain_model::NoMemory;
+use mesh_model::NoMemory;
 use std::alloc::Global;
 
 /// A number of units with so many decimal places.

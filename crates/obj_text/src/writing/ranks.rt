@@ -2,7 +2,7 @@
 ghost use Rattle.std.specs.Prelude.{IfOk};
 ghost use Rattle.obj_text.specs.Ranks.{AreIndices};
 
-use plain_model::{Elem, NoMemory, Shape, VertName};
+use mesh_model::{Elem, NoMemory, Shape, VertName};
 use std::alloc::Global;
 
 /// The index of each vertex by its name: its place among the live ones, from 1.

@@ -1,11 +1,11 @@
 //! The lines of the vertices.
 ghost use Rattle.std.specs.Prelude.{◌≡◌, ◌≤◌, IfOk};
 ghost use Rattle.std.specs.String.{string_bytes};
-ghost use Rattle.plain_model.specs.Complex.{Complex};
+ghost use Rattle.mesh_model.specs.Complex.{Complex};
 ghost use Rattle.obj_text.specs.Written.{vert_line, vert_lines};
 
 use crate::writing::numbers::grid_number;
-use plain_model::{Elem, NoMemory, Point, Shape, VertName};
+use mesh_model::{Elem, NoMemory, Point, Shape, VertName};
 use std::alloc::Global;
 
 /// A line `v X Y Z` for each vertex, by rising name.

@@ -1,7 +1,7 @@
 //! The text of a complex.
 ghost use Rattle.std.specs.Prelude.{◌≡◌, ◌≤◌, IfOk, OnOk};
-ghost use Rattle.plain_model.specs.Complex.{Complex};
-ghost use Rattle.plain_model.specs.Valid.{IsValid};
+ghost use Rattle.mesh_model.specs.Complex.{Complex};
+ghost use Rattle.mesh_model.specs.Valid.{IsValid};
 ghost use Rattle.obj_text.specs.Written.{text};
 ghost use Rattle.byte_sink.specs.Wrote.{with_after, AddsPrefix};
 ghost use Rattle.byte_sink.specs.Causes.{CountsFault};
@@ -11,7 +11,7 @@ use crate::writing::loose_lines::loose_lines;
 use crate::writing::ranks::indices_of;
 use crate::writing::vert_lines::vert_lines;
 use byte_sink::{Sink, WriteFault, write_all};
-use plain_model::{NoMemory, Shape};
+use mesh_model::{NoMemory, Shape};
 use std::alloc::Global;
 
 /// The text of a complex: a line `v X Y Z` for each vertex, `l A B` for each edge that no face has,

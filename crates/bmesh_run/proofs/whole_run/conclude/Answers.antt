@@ -7,8 +7,10 @@ use Rattle.bmesh_run.proofs.whole_run.conclude.Goals as goal
 pub returns-in-Ok-clause-by_status : goal.returns-in-Ok-clause-by_status
 returns-in-Ok-clause-by_status g c =
     let tells = g.W.World.told in
-    ends_by_print (out_starts c.args.out.now) c.print_report.result _ (tells c.args.world.now) (tells c.print_report.new.world) c.print_report.ensures.goes_on
+    ends_by_print (out_starts c.args.out.now) c.print_report.result _ (tells c.args.world.now)
+    (tells c.print_report.new.world) c.print_report.ensures.goes_on
     (ap (λ (t : Told). t.started) c.print_report.ensures.part.1 ∙ c.in-Ok.ensures.started)
 
 pub returns-in-Ok-clause-rest : goal.returns-in-Ok-clause-rest
-returns-in-Ok-clause-rest g c = ap (λ (t : Told). t.rest) c.print_report.ensures.part.1 ∙ ap (λ (t : Told). t.rest) c.in-Ok.ensures.only
+returns-in-Ok-clause-rest g c = ap (λ (t : Told). t.rest) c.print_report.ensures.part.1
+    ∙ ap (λ (t : Told). t.rest) c.in-Ok.ensures.only

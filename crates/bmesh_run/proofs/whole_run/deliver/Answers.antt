@@ -3,5 +3,7 @@ use Rattle.bmesh_run.proofs.whole_run.deliver.Goals as goal
 
 pub returns-in-Ok-run_commands-clause-ends : goal.returns-in-Ok-run_commands-clause-ends
 returns-in-Ok-run_commands-clause-ends g c =
-    ends_delivered c.args.draft.now c.args.script.now c.load.new.self.state c.as_slice-commands.result.now c.in-Ok-run_commands.replies c.args.out.now c.conclude.result c.run_commands.new.session.state _ _ c.in-Ok.ensures.ok c.as_slice-commands.ensures
+    ends_delivered c.args.draft.now c.args.script.now c.load.new.self.state c.as_slice-commands.result.now
+    c.in-Ok-run_commands.replies c.args.out.now c.conclude.result c.run_commands.new.session.state _ _
+    c.in-Ok.ensures.ok c.as_slice-commands.ensures
     c.in-Ok-run_commands.ensures.ok (rw c.as_slice.ensures at c.conclude.ensures.ends)

@@ -1,10 +1,11 @@
 use Rattle.std.proofs.Common.{◌≡◌, true, ◌∙◌, sym, Ok, Err, Result}
-use Rattle.plain_model.specs.Complex.{Complex}
+use Rattle.mesh_model.specs.Complex.{Complex}
 use Rattle.obj_text.specs.declared.obj_fault.ObjRefusal.{ObjRefusal}
 use Rattle.bmesh_run.specs.declared.stop.Stop.TheVariants as stop
 use Rattle.bmesh_run.specs.Job.{Job, is_grid, model_starts}
 use Rattle.bmesh_run.specs.Run.{model_of, model_most, model_line, grid_refusal}
-use Rattle.bmesh_run.proofs.Levels.{ReadsInput, left_starts, after_model, refused_model, failed_model, unread_model, usage_refused}
+use Rattle.bmesh_run.proofs.Levels.{ReadsInput, left_starts, after_model, refused_model, failed_model, unread_model}
+use Rattle.bmesh_run.proofs.Levels.{usage_refused}
 use Rattle.bmesh_run.proofs.whole_run.run_job.Goals as goal
 
 pub returns-in-Ok-clause-runs : goal.returns-in-Ok-clause-runs
@@ -13,14 +14,17 @@ returns-in-Ok-clause-runs g c =
     let job : Job = record { model = c.args.job.model.now; script = c.args.job.script.now; out = c.args.job.out.now } in
     let old = tells c.args.world.now in
     let mid = tells c.read_model.new.world in
-    let reads : ReadsInput {T = Complex} {R = ObjRefusal} (Ok c.in-Ok.draft) (model_of job.model) model_most (model_starts job.model) old mid = record {
+    let reads : ReadsInput {T = Complex} {R = ObjRefusal} (Ok c.in-Ok.draft) (model_of job.model) model_most
+    (model_starts job.model) old mid = record {
       judged = c.in-Ok.ensures.judged;
       only = c.in-Ok.ensures.only;
       asked = c.in-Ok.ensures.asked;
-      left = λ files told. left_starts model_most (is_grid job.model) job.model files old mid c.in-Ok.ensures.still (λ no. c.in-Ok.ensures.left no files told);
+      left = λ files told. left_starts model_most (is_grid job.model) job.model files old mid c.in-Ok.ensures.still
+          (λ no. c.in-Ok.ensures.left no files told);
       cause = c.in-Ok.ensures.cause;
     } in
-    after_model job c.in-Ok.draft c.run_model.result c.run_model.new.session.state old mid (tells c.run_model.new.world) reads c.run_model.ensures.accepted c.run_model.ensures.runs
+    after_model job c.in-Ok.draft c.run_model.result c.run_model.new.session.state old mid (tells c.run_model.new.world)
+    reads c.run_model.ensures.accepted c.run_model.ensures.runs
 
 pub returns-in-Err-Refused-clause-runs : goal.returns-in-Err-Refused-clause-runs
 returns-in-Err-Refused-clause-runs g c =
@@ -28,14 +32,18 @@ returns-in-Err-Refused-clause-runs g c =
     let job : Job = record { model = c.args.job.model.now; script = c.args.job.script.now; out = c.args.job.out.now } in
     let old = tells c.args.world.now in
     let mid = tells c.read_model.new.world in
-    let reads : ReadsInput {T = Complex} {R = ObjRefusal} (Err (stop.Refused c.in-Err-Refused.refusal)) (model_of job.model) model_most (model_starts job.model) old mid = record {
+    let reads : ReadsInput {T = Complex} {R = ObjRefusal} (Err (stop.Refused c.in-Err-Refused.refusal))
+    (model_of job.model) model_most (model_starts job.model) old mid = record {
       judged = λ files told. rw c.in-Err-Refused.field-0-is at (c.in-Err-Refused.ensures.judged files told);
       only = c.in-Err-Refused.ensures.only;
       asked = rw c.in-Err-Refused.field-0-is at c.in-Err-Refused.ensures.asked;
-      left = λ files told. left_starts model_most (is_grid job.model) job.model files old mid c.in-Err-Refused.ensures.still (λ no. (rw c.in-Err-Refused.field-0-is at (c.in-Err-Refused.ensures.left no)) files told);
+      left = λ files told. left_starts model_most (is_grid job.model)
+          job.model files old mid c.in-Err-Refused.ensures.still
+          (λ no. (rw c.in-Err-Refused.field-0-is at (c.in-Err-Refused.ensures.left no)) files told);
       cause = rw c.in-Err-Refused.field-0-is at c.in-Err-Refused.ensures.cause;
     } in
-    rw c.requires (refused_model job c.in-Err-Refused.refusal c.refuse_model.result old mid (tells c.refuse_model.new.world) reads c.refuse_model.ensures)
+    rw c.requires (refused_model job c.in-Err-Refused.refusal c.refuse_model.result old mid
+    (tells c.refuse_model.new.world) reads c.refuse_model.ensures)
 
 pub returns-in-Err-Refused-clause-usage : goal.returns-in-Err-Refused-clause-usage
 returns-in-Err-Refused-clause-usage g c =
@@ -43,7 +51,8 @@ returns-in-Err-Refused-clause-usage g c =
     let job : Job = record { model = c.args.job.model.now; script = c.args.job.script.now; out = c.args.job.out.now } in
     let old = tells c.args.world.now in
     let mid = tells c.read_model.new.world in
-    usage_refused job c.in-Err-Refused.refusal (model_line c.in-Err-Refused.refusal) c.refuse_model.result mid (tells c.refuse_model.new.world) c.refuse_model.ensures
+    usage_refused job c.in-Err-Refused.refusal (model_line c.in-Err-Refused.refusal) c.refuse_model.result mid
+    (tells c.refuse_model.new.world) c.refuse_model.ensures
     (λ grid. let same = (rw c.in-Err-Refused.field-0-is at c.in-Err-Refused.ensures.grid) grid in cc)
 
 pub returns-in-Err-Failed-clause-runs : goal.returns-in-Err-Failed-clause-runs
@@ -52,7 +61,8 @@ returns-in-Err-Failed-clause-runs g c =
     let job : Job = record { model = c.args.job.model.now; script = c.args.job.script.now; out = c.args.job.out.now } in
     let old = tells c.args.world.now in
     let mid = tells c.read_model.new.world in
-    let reads : ReadsInput {T = Complex} {R = ObjRefusal} (Err stop.Failed) (model_of job.model) model_most (model_starts job.model) old mid = record {
+    let reads : ReadsInput {T = Complex} {R = ObjRefusal} (Err stop.Failed) (model_of job.model) model_most
+    (model_starts job.model) old mid = record {
       judged = λ files told. rw c.in-Err-Failed.field-0-is at (c.in-Err-Failed.ensures.judged files told);
       only = c.in-Err-Failed.ensures.only;
       asked = rw c.in-Err-Failed.field-0-is at c.in-Err-Failed.ensures.asked;
@@ -67,7 +77,8 @@ returns-in-Err-NoMemory-clause-runs g c =
     let job : Job = record { model = c.args.job.model.now; script = c.args.job.script.now; out = c.args.job.out.now } in
     let old = tells c.args.world.now in
     let mid = tells c.read_model.new.world in
-    let reads : ReadsInput {T = Complex} {R = ObjRefusal} (Err stop.NoMemory) (model_of job.model) model_most (model_starts job.model) old mid = record {
+    let reads : ReadsInput {T = Complex} {R = ObjRefusal} (Err stop.NoMemory) (model_of job.model) model_most
+    (model_starts job.model) old mid = record {
       judged = λ files told. rw c.in-Err-NoMemory.field-0-is at (c.in-Err-NoMemory.ensures.judged files told);
       only = c.in-Err-NoMemory.ensures.only;
       asked = rw c.in-Err-NoMemory.field-0-is at c.in-Err-NoMemory.ensures.asked;

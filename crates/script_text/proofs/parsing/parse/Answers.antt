@@ -6,5 +6,6 @@ use Rattle.script_text.proofs.parsing.parse.Goals as goal
 
 pub script_of_lines-requires : goal.script_of_lines-requires
 script_of_lines-requires c =
-    let same : length c.in_ok-lines.lines.items ≡ length (lines c.args.text.now) = sym (length-map c.in_ok-lines.lines.items (λ l. l.now)) ∙ ap length c.in_ok-lines.ensures in
+    let same : length c.in_ok-lines.lines.items ≡ length (lines c.args.text.now) =
+    sym (length-map c.in_ok-lines.lines.items (λ l. l.now)) ∙ ap length c.in_ok-lines.ensures in
     rw c.deref.ensures.value (omega (arith, length-lines c.args.text.now))

@@ -1,6 +1,7 @@
 use Rattle.std.proofs.Common.{◌<◌, ◌∙◌, [], length, map, sym}
 use Rattle.std.proofs.lemmas.List.{length-map, get_or-map}
-use Rattle.script_text.proofs.ScriptLemmas.{script_from-zero, script_from-empty, script_from-command, script_from-unknown}
+use Rattle.script_text.proofs.ScriptLemmas.{script_from-zero, script_from-empty, script_from-command}
+use Rattle.script_text.proofs.ScriptLemmas.{script_from-unknown}
 use Rattle.script_text.proofs.parsing.script_of_lines.Goals as goal
 
 pub loop-k-init : goal.loop-k-init
@@ -23,6 +24,7 @@ returns-in-None c =
 pub loop-k-preserved : goal.loop-k-preserved
 loop-k-preserved c =
     let here : c.loop-k.k < length c.args.lines.now = c.loop-k-test.true in
-    rw c.in_ok-push-in-Some.ensures.ok (script_from-command (map (λ l. l.now) c.args.lines.now) c.loop-k.k _ _ c.in-Some.op _ (rw length-map here)
+    rw c.in_ok-push-in-Some.ensures.ok
+    (script_from-command (map (λ l. l.now) c.args.lines.now) c.loop-k.k _ _ c.in-Some.op _ (rw length-map here)
     (get_or-map (λ l. l.now) c.args.lines.now c.loop-k.k (record { ref_ptr = (0, 0); now = [] }) [] here)
     (sym c.in_ok-op.ensures ∙ c.in-Some.is) c.loop-k.invariant)

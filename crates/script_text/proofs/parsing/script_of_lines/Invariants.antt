@@ -8,4 +8,5 @@ use Rattle.script_text.proofs.parsing.script_of_lines.Given as goal
 abbrev pub invariant-loop-k : goal.invariant-loop-k
 invariant-loop-k l =
     let ls = map (λ x. x.now) l.lines in
-    script_from l.k (drop l.k ls) l.commands ≡ unless_unknown (position is_unknown ls) (filter_map command_at (enumerate_from 0 ls))
+    script_from l.k (drop l.k ls) l.commands
+    ≡ unless_unknown (position is_unknown ls) (filter_map command_at (enumerate_from 0 ls))

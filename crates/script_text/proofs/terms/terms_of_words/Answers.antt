@@ -1,6 +1,6 @@
 use Rattle.std.proofs.Common.{◌≡◌, sym, subst, ◌∙◌, Option, List, map, length, ◌≤◌, IfOk}
 use Rattle.std.proofs.lemmas.List.{length-map}
-use Rattle.plain_model.specs.declared.slots.Term.{Term}
+use Rattle.mesh_model.specs.declared.slots.Term.{Term}
 use Rattle.text_words.specs.Each.{each}
 use Rattle.text_words.proofs.EachLemmas.{each_map}
 use Rattle.script_text.specs.Script.{vert_term, terms_of_words}

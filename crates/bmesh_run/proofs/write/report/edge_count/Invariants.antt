@@ -1,5 +1,5 @@
 use Rattle.std.proofs.Common.{◌≡◌, ◌≤◌, take}
-use Rattle.plain_model.specs.Table.{live}
+use Rattle.mesh_model.specs.Table.{live}
 use Rattle.bmesh_run.proofs.write.report.edge_count.Given as goal
 
 abbrev pub invariant-loop-n : goal.invariant-loop-n

@@ -20,7 +20,8 @@ returns-in_err-write-clause-part g c =
       part.0,
       made_begun (told c.args.world.now) (told before) (told after) c.args.name.now piece c.in_ok-start_write.ensures
           (law.others_is_rest after before c.in_err-write.ensures.others)
-          (sym (law.sink_is_begun after).0 ∙ part.1 ∙ ap (λ (o : Option (List ℕ)). with_after o piece) (law.sink_is_begun before).0),
+          (sym (law.sink_is_begun after).0 ∙ part.1
+          ∙ ap (λ (o : Option (List ℕ)). with_after o piece) (law.sink_is_begun before).0),
     )
 
 pub returns-in_err-write-clause-started : goal.returns-in_err-write-clause-started
@@ -42,11 +43,17 @@ returns-clause-ok g c =
     let name = c.args.name.now in
     let bytes = (text 0 (g.S.Shape.complex c.args.shape.now)) in
     let count : (told after).out_faults ≡ old.out_faults =
-    sym (law.sink_is_begun after).1 ∙ c.in_ok-write.ensures.cause ∙ (law.sink_is_begun before).1 ∙ ap (λ (t : Told). t.out_faults) c.in_ok-start_write.ensures in
+    sym (law.sink_is_begun after).1 ∙ c.in_ok-write.ensures.cause ∙ (law.sink_is_begun before).1
+    ∙ ap (λ (t : Told). t.out_faults) c.in_ok-start_write.ensures in
     file_written old (told before) (told after) name bytes c.in_ok-start_write.ensures
     (law.others_is_rest after before c.in_ok-write.ensures.others)
-    (sym (law.sink_is_begun after).0 ∙ c.in_ok-write.ensures.ok ∙ ap (λ (o : Option (List ℕ)). with_after o bytes) (law.sink_is_begun before).0)
-    ∙ ap (λ (n : ℕ). record (asked old name Writing) { made = option_map (put name bytes) old.made; begun = Some name; out_faults = n }) count
+    (sym (law.sink_is_begun after).0 ∙ c.in_ok-write.ensures.ok
+    ∙ ap (λ (o : Option (List ℕ)). with_after o bytes) (law.sink_is_begun before).0)
+    ∙ ap (λ (n : ℕ). record (asked old name Writing) {
+      made = option_map (put name bytes) old.made;
+      begun = Some name;
+      out_faults = n;
+    }) count
 
 pub returns-clause-part : goal.returns-clause-part
 returns-clause-part g c =
@@ -60,4 +67,5 @@ returns-clause-part g c =
     makes_all old (told after) name bytes
     (made_begun old (told before) (told after) name bytes c.in_ok-start_write.ensures
     (law.others_is_rest after before c.in_ok-write.ensures.others)
-    (sym (law.sink_is_begun after).0 ∙ c.in_ok-write.ensures.ok ∙ ap (λ (o : Option (List ℕ)). with_after o bytes) (law.sink_is_begun before).0))
+    (sym (law.sink_is_begun after).0 ∙ c.in_ok-write.ensures.ok
+    ∙ ap (λ (o : Option (List ℕ)). with_after o bytes) (law.sink_is_begun before).0))

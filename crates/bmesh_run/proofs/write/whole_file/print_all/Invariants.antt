@@ -7,7 +7,10 @@ invariant-loop-done g l =
     let told = g.W.World.told in
     record {
       within : l.done ≤ length l.bytes;
-      printed : told l.world ≡ record (told l.fn.world) { printed = with_after (told l.fn.world).printed (take l.done l.bytes) };
+      printed : told l.world ≡ record (told l.fn.world) {
+        printed =
+            with_after (told l.fn.world).printed (take l.done l.bytes);
+      };
     }
 
 abbrev pub decreases-loop-done : goal.decreases-loop-done

@@ -6,7 +6,8 @@ use Rattle.mesh_session.proofs.session.Session.advance.Goals as goal
 -- what the session shows then is the next state
 goes_on : (c : goal.In_ok-put_next)
     → state_with c.put_next.new.current c.put_next.new.undo.items c.put_next.new.redo.items
-    ≡ next_state (state_with c.self.inside.current c.self.inside.undo.items c.self.inside.redo.items) c.args.binding c.args.next
+    ≡ next_state (state_with c.self.inside.current c.self.inside.undo.items c.self.inside.redo.items)
+    c.args.binding c.args.next
 goes_on c =
     rw (c.in_ok-put_next.ensures.now, c.in_ok-put_next.ensures.undo, c.in_ok-put_next.ensures.redo)
     (state_with-next c.self.inside.current c.args.next c.self.inside.undo.items c.self.inside.redo.items c.args.binding)

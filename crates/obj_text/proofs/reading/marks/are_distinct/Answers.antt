@@ -9,7 +9,9 @@ returns-then-marks-place-clause-same c =
     let i = c.loop-index.index-index in
     let bounds = c.requires.within i 0 c.loop-index-test.true in
     let long = c.loop-index.invariant.long in
-    sym (marked_twice c.args.mark c.args.indices.now i (get_or c.args.indices.now i 0) c.loop-index.marks c.loop-index-test.true refl c.loop-index.invariant.marked (omega arith) c.if-marks-place.true)
+    sym (marked_twice c.args.mark c.args.indices.now i (get_or c.args.indices.now i 0)
+    c.loop-index.marks c.loop-index-test.true refl c.loop-index.invariant.marked (omega arith)
+    c.if-marks-place.true)
 
 pub loop-index-preserved : goal.loop-index-preserved
 loop-index-preserved c =
@@ -20,7 +22,10 @@ loop-index-preserved c =
     let within : x - 1 < length c.loop-index.marks = omega arith in
     record {
       long = length-set c.loop-index.marks (x - 1) c.args.mark ∙ long;
-      marked = marked_next c.args.mark c.args.indices.now i x c.loop-index.marks c.loop-index-test.true refl c.loop-index.invariant.marked within;
-      distinct = marked_once c.args.mark c.args.indices.now i x c.loop-index.marks c.loop-index-test.true refl c.loop-index.invariant.marked c.loop-index.invariant.distinct within c.if-marks-place.false;
-      below = All-set (λ m. m < c.args.mark + 1) c.loop-index.marks (x - 1) c.args.mark (omega arith) c.loop-index.invariant.below;
+      marked = marked_next c.args.mark c.args.indices.now i x c.loop-index.marks c.loop-index-test.true refl
+          c.loop-index.invariant.marked within;
+      distinct = marked_once c.args.mark c.args.indices.now i x c.loop-index.marks c.loop-index-test.true refl
+          c.loop-index.invariant.marked c.loop-index.invariant.distinct within c.if-marks-place.false;
+      below = All-set (λ m. m < c.args.mark + 1) c.loop-index.marks (x - 1) c.args.mark (omega arith)
+          c.loop-index.invariant.below;
     }

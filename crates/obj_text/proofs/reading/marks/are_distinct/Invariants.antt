@@ -1,6 +1,6 @@
 use Rattle.std.proofs.Common.{◌≡◌, ◌+◌, ◌<◌, true, length, map, take}
 use Rattle.std.specs.List.{All}
-use Rattle.plain_model.specs.Valid.{are_distinct}
+use Rattle.mesh_model.specs.Valid.{are_distinct}
 use Rattle.obj_text.specs.Obj.{vert_at}
 use Rattle.obj_text.proofs.MarkLemmas.{Marked}
 use Rattle.obj_text.proofs.reading.marks.are_distinct.Given as goal

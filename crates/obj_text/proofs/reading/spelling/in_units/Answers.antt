@@ -15,5 +15,6 @@ returns c =
     let small = unit_small c.args.scale c.requires.scale in
     let number : to_z w64 (of_z w64 c.args.n) ≡ c.args.n = omega (arith, ints) in
     let unit : to_z w64 c.pow.result ≡ pos (10 ^ c.args.scale) = omega (arith, ints) in
-    let fits : FitsSigned w64 (c.args.n *ℤ pos (10 ^ c.args.scale)) = units_fit c.args.scale c.args.n c.requires.scale c.requires.above c.requires.below in
+    let fits : FitsSigned w64 (c.args.n *ℤ pos (10 ^ c.args.scale)) =
+    units_fit c.args.scale c.args.n c.requires.scale c.requires.above c.requires.below in
     rw (number, unit) (omega (arith, ints))

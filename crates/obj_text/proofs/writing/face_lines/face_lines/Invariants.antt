@@ -6,4 +6,5 @@ use Rattle.obj_text.proofs.writing.face_lines.face_lines.Given as goal
 
 -- the lines of the faces so far
 abbrev pub invariant-loop-n : goal.invariant-loop-n
-invariant-loop-n g l = string_bytes l.out ≡ flat_map (face_entry (g.S.Shape.complex l.shape)) (take l.n (g.S.Shape.complex l.shape).faces)
+invariant-loop-n g l =
+    string_bytes l.out ≡ flat_map (face_entry (g.S.Shape.complex l.shape)) (take l.n (g.S.Shape.complex l.shape).faces)

@@ -1,18 +1,18 @@
 use Rattle.std.proofs.Common.{◌≡◌, ℕ, List, IfOk, arith, refl, sym, subst}
 use Rattle.std.specs.String.{string_bytes}
-use Rattle.plain_model.specs.declared.names.VertName.{VertName}
+use Rattle.mesh_model.specs.declared.names.VertName.{VertName}
 use Rattle.obj_text.proofs.WritingLemmas.{ends_told_below, loose_told}
 use Rattle.obj_text.proofs.writing.loose_lines.loose_entry.Goals as goal
 
 pub bounds-indices-a : goal.bounds-indices-a
 bounds-indices-a g c =
-    let below = ends_told_below _ c.args.e.0 c.ends.result (record { 0 = 0 }) c.requires.linked (sym c.if-not-has.ensures) c.ends.ensures in
+    let below = ends_told_below _ c.args.e.0 c.ends.result (record { 0 = 0 }) c.requires.linked c.ends.ensures in
     let long = c.requires.indices.long in
     omega arith
 
 pub bounds-indices-b : goal.bounds-indices-b
 bounds-indices-b g c =
-    let below = ends_told_below _ c.args.e.0 c.ends.result (record { 0 = 0 }) c.requires.linked (sym c.if-not-has.ensures) c.ends.ensures in
+    let below = ends_told_below _ c.args.e.0 c.ends.result (record { 0 = 0 }) c.requires.linked c.ends.ensures in
     let long = c.requires.indices.long in
     omega arith
 
@@ -21,6 +21,6 @@ returns g c =
     let zero : VertName = record { 0 = 0 } in
     let same =
     loose_told _ c.args.indices.now c.args.e.0 c.ends.result zero _ c.requires.linked c.requires.indices
-    (sym c.if-not-has.ensures) c.ends.ensures (sym c.if-not-is_loose.ensures) refl
+    c.ends.ensures (sym c.if-not-is_loose.ensures) refl
     in
     subst (λ (t : List ℕ). IfOk c.loose_line.result (λ s. string_bytes s ≡ t)) same c.loose_line.ensures

@@ -1,5 +1,5 @@
 use Rattle.std.proofs.Common.{◌≡◌, ◌≤◌, take}
-use Rattle.plain_model.specs.Table.{live}
+use Rattle.mesh_model.specs.Table.{live}
 use Rattle.obj_text.specs.Ranks.{AreIndicesTo}
 use Rattle.obj_text.proofs.writing.ranks.indices_of.Given as goal
 

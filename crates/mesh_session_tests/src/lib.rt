@@ -1,7 +1,0 @@
-//! Tests of the session.
-//!
-//! They stand apart from it, since a crate is proved a second time with its tests.
-#![tactic(auto)]
-
-#[cfg(test)]
-mod commands;
