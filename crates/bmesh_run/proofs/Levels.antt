@@ -15,8 +15,8 @@ use Rattle.worlds.specs.Told.{Told}
 use Rattle.worlds.specs.declared.start.Start.{Start}
 use Rattle.worlds.specs.declared.start.Purpose.TheVariants.{Reading}
 use Rattle.bmesh_run.specs.Job.{Job, is_grid, job_of, out_of, model_starts, script_starts, out_starts}
-use Rattle.bmesh_run.specs.Run.{Outcome, grid_refusal, model_of, script_named, model_most, script_most, refuses}
-use Rattle.bmesh_run.specs.Run.{delivers, model_line, script_line, usage_line, outcome}
+use Rattle.bmesh_run.specs.Run.{Outcome, grid_refusal, model_of, script_named, model_most, script_most, refusal_outcome}
+use Rattle.bmesh_run.specs.Run.{commands_outcome, model_line, script_line, usage_line, outcome}
 use Rattle.bmesh_run.specs.Whole.{KeepsCounts, OnlyReads, PrintsPart}
 use Rattle.bmesh_run.specs.Stops.{Judges, CausesStop, AsksBefore}
 use Rattle.bmesh_run.specs.Ends.{is_answer, is_delivered, is_past_model, is_past_script, Ends, LeavesAll, Caused}
@@ -160,7 +160,8 @@ pub after_script : (c : Complex) (s : Script) (script out : List ℕ) (status : 
     (old mid new : Told)
     → ReadsInput {T = Script} {R = ScriptRefusal} (Ok s) (script_named script) script_most (script_starts script)
     old mid → is_past_script status ≡ true
-    → Ends (delivers c s) out status final mid new → (status ≡ NoMemory → (final ≡ fresh_state) ⊎ IsOnTheWay c s final)
+    → Ends (commands_outcome c s) out status final mid new
+    → (status ≡ NoMemory → (final ≡ fresh_state) ⊎ IsOnTheWay c s final)
     → Caused status mid new → EndsBy [] [] (out_starts out) status final mid new → new.rest ≡ mid.rest
     → (is_delivered status ≡ true → new.begun ≡ None) → IsSoundState final
     → RunsAs (modelled c script out) status final old new
@@ -182,7 +183,7 @@ after_script c s script out status final old mid new reads past ends way cause b
 -- a line was printed whole in place of a report
 ends_printed : (refused : Status) (line out : List ℕ) (old new : Told)
     → new ≡ record old { printed = with_after old.printed line } → PrintsPart old new line
-    → Ends (refuses refused line) out refused fresh_state old new
+    → Ends (refusal_outcome refused line) out refused fresh_state old new
 ends_printed refused line out old new all part =
     ends_refused refused refused line out old new (λ _. refl) (λ _. all) part
 
@@ -467,7 +468,7 @@ pub is_run_usage : (words : List (List ℕ)) (status : Status) (old new : Told) 
     → PrintsRefusal Usage usage_line status old new → IsRun words status fresh_state old new
 is_run_usage words status old new is prints = elim prints [
   | inl a ↦
-      let ends : (out : List ℕ) → Ends (refuses Usage usage_line) out Usage fresh_state old new =
+      let ends : (out : List ℕ) → Ends (refusal_outcome Usage usage_line) out Usage fresh_state old new =
       λ out. ends_printed Usage usage_line out old new a.1 (all_is_part usage_line old new a.1) in
       let cause : Caused Usage old new =
       record { input = ap (λ (t : Told). t.in_faults) a.1; output = ap (λ (t : Told). t.out_faults) a.1 } in
@@ -489,7 +490,7 @@ is_run_usage words status old new is prints = elim prints [
       })
   | inr f ↦ elim f [
     | inl b ↦
-        let ends : (out : List ℕ) → Ends (refuses Usage usage_line) out OutFault fresh_state old new =
+        let ends : (out : List ℕ) → Ends (refusal_outcome Usage usage_line) out OutFault fresh_state old new =
         λ out. ends_unprinted Usage OutFault usage_line usage_line out old new refl refl b.1 in
         let cause : Caused OutFault old new = (b.2, ap (λ (t : Told). t.in_faults) b.1.1) in
         let by : EndsBy [] [] [] OutFault fresh_state old new = asks_all [] old new (ap (λ (t : Told). t.started) b.1.1
@@ -510,7 +511,7 @@ is_run_usage words status old new is prints = elim prints [
           sound = sound_fresh;
         })
     | inr d ↦
-        let ends : (out : List ℕ) → Ends (refuses Usage usage_line) out NoMemory fresh_state old new =
+        let ends : (out : List ℕ) → Ends (refusal_outcome Usage usage_line) out NoMemory fresh_state old new =
         λ out. ends_unprinted Usage NoMemory usage_line usage_line out old new refl refl d.1 in
         let cause : Caused NoMemory old new = record { input = ap (λ (t : Told). t.in_faults) d.1.1; output = d.2 } in
         let by : EndsBy [] [] [] NoMemory fresh_state old new = asks_all [] old new (ap (λ (t : Told). t.started) d.1.1

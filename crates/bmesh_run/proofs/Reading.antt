@@ -6,7 +6,7 @@ use Rattle.std.proofs.Math.Seq.{take-append_seam, drop-append_seam}
 use Rattle.std.proofs.Math.ListN.{drop_of_length-le}
 use Rattle.std.specs.Option.{option_map}
 use Rattle.worlds.specs.Files.{Files, bytes_of}
-use Rattle.worlds.specs.Told.{Told, asked}
+use Rattle.worlds.specs.Told.{Told, with_start}
 use Rattle.worlds.specs.Calls.{ReadsNext}
 use Rattle.bmesh_run.specs.Whole.{IsUpTo, IsWhole, IsLeft}
 use Rattle.worlds.specs.declared.world_fault.WorldFault.{WorldFault}
@@ -15,7 +15,7 @@ use Rattle.worlds.specs.declared.start.Purpose.TheVariants.{Reading}
 
 -- a file was asked for, and only what is left of it may have changed
 abbrev pub IsAsked : Told → Told → List ℕ → Type 0
-IsAsked old t name = t ≡ record (asked old name Reading) { rest = t.rest }
+IsAsked old t name = t ≡ record (with_start old name Reading) { rest = t.rest }
 
 -- all of a file is the file, and one past the limit is past it
 is_up_to_all : (limit : ℕ) (out all : List ℕ) → length out ≤ limit + 1 → out ≡ all → IsUpTo limit out all
@@ -67,14 +67,14 @@ is_whole_past old t name out limit few more left = (
 
 -- a fault of reading leaves what was asked for
 pub fault_leaves_started : (old t t' : Told) (name into : List ℕ) (fault : WorldFault) → IsAsked old t name
-    → ReadsNext t t' into (Err fault) → t'.started ≡ (asked old name Reading).started
+    → ReadsNext t t' into (Err fault) → t'.started ≡ (with_start old name Reading).started
 fault_leaves_started old t t' name into Failed only h = ap (λ (x : Told). x.started) h.1
     ∙ ap (λ (x : Told). x.started) only
 fault_leaves_started old t t' name into NoMemory only h = ap (λ (x : Told). x.started) h
     ∙ ap (λ (x : Told). x.started) only
 
 pub ok_leaves_started : (old t t' : Told) (name into : List ℕ) (n : ℕ) → IsAsked old t name → ReadsNext t t' into (Ok n)
-    → t'.started ≡ (asked old name Reading).started
+    → t'.started ≡ (with_start old name Reading).started
 ok_leaves_started old t t' name into n only h = ap (λ (x : Told). x.started) h.1 ∙ ap (λ (x : Told). x.started) only
 
 -- nothing was given, though there was room: nothing is left

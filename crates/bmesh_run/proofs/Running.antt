@@ -16,7 +16,7 @@ use Rattle.obj_text.specs.declared.obj_fault.ObjRefusal.{ObjRefusal}
 use Rattle.script_text.specs.declared.script.Script.{Script}
 use Rattle.script_text.specs.declared.fault.ScriptRefusal.{ScriptRefusal}
 use Rattle.bmesh_run.specs.Job.{Job, job_of, out_of}
-use Rattle.bmesh_run.specs.Run.{Outcome, model_of, script_named, refuses, concludes, delivers, with_script, with_model}
+use Rattle.bmesh_run.specs.Run.{Outcome, model_of, script_named, refusal_outcome, replies_outcome, commands_outcome, with_script, with_model}
 use Rattle.bmesh_run.specs.Run.{outcome, model_line, script_line, usage_line}
 use Rattle.bmesh_run.specs.Ends.{is_answer, made_with, begun_after, Ends}
 use Rattle.bmesh_run.specs.Whole.{AsksFor, OnlyReads, PrintsPart}
@@ -82,7 +82,7 @@ asks_first a b old new h =
 pub ends_refused : (refused status : Status) (line out : List ℕ) (old new : Told)
     → (is_answer status ≡ true → status ≡ refused)
     → (is_answer status ≡ true → new ≡ record old { printed = with_after old.printed line }) → PrintsPart old new line
-    → Ends (refuses refused line) out status fresh_state old new
+    → Ends (refusal_outcome refused line) out status fresh_state old new
 ends_refused refused status line out old new answer all part = record {
   answer = answer;
   session = λ _. refl;
@@ -103,21 +103,21 @@ ends_refused refused status line out old new answer all part = record {
 
 -- a fault kept the line from being printed whole
 pub ends_unprinted : (refused status : Status) (line bytes out : List ℕ) (old new : Told) → is_answer status ≡ false
-    → bytes ≡ line → PrintsPart old new bytes → Ends (refuses refused line) out status fresh_state old new
+    → bytes ≡ line → PrintsPart old new bytes → Ends (refusal_outcome refused line) out status fresh_state old new
 ends_unprinted refused status line bytes out old new fault is part =
     ends_refused refused status line out old new (λ answer. absurd (true≢false (sym answer ∙ fault)))
     (λ answer. absurd (true≢false (sym answer ∙ fault))) (rw is at part)
 
 -- an accepted script
 pub ends_script : (c : Complex) (s : Script) (script : Result Script ScriptRefusal) (out : List ℕ) (status : Status)
-    (final : State) (old new : Told) → script ≡ Ok s → Ends (delivers c s) out status final old new
+    (final : State) (old new : Told) → script ≡ Ok s → Ends (commands_outcome c s) out status final old new
     → Ends (with_script c script) out status final old new
 ends_script c s script out status final old new is h = rw is h
 
 -- a script that is refused
 pub ends_script_refused : (c : Complex) (r : ScriptRefusal) (script : Result Script ScriptRefusal) (out : List ℕ)
     (status : Status) (final : State) (old new : Told) → script ≡ Err r
-    → Ends (refuses (ScriptRefused r) (script_line r)) out status final old new
+    → Ends (refusal_outcome (ScriptRefused r) (script_line r)) out status final old new
     → Ends (with_script c script) out status final old new
 ends_script_refused c r script out status final old new is h = rw is h
 
@@ -131,13 +131,13 @@ ends_model c model script out status final old new is h = rw is h
 -- a model that is refused
 pub ends_model_refused : (r : ObjRefusal) (model : Result Complex ObjRefusal) (script : Result Script ScriptRefusal)
     (out : List ℕ) (status : Status) (final : State) (old new : Told) → model ≡ Err r
-    → Ends (refuses (ModelRefused r) (model_line r)) out status final old new
+    → Ends (refusal_outcome (ModelRefused r) (model_line r)) out status final old new
     → Ends (with_model model script) out status final old new
 ends_model_refused r model script out status final old new is h = rw is h
 
 -- words that are not accepted
 pub ends_words : (words : List (List ℕ)) (files : Files) (status : Status) (final : State) (old new : Told)
-    → job_of words ≡ None → Ends (refuses Usage usage_line) [] status final old new
+    → job_of words ≡ None → Ends (refusal_outcome Usage usage_line) [] status final old new
     → Ends (outcome words files) (out_of (job_of words)) status final old new
 ends_words words files status final old new is h = rw is h
 
@@ -151,8 +151,8 @@ ends_job words job files status final old new is h = rw is h
 -- the commands of a script were given, and their replies concluded
 pub ends_delivered : (c : Complex) (s : Script) (start : State) (commands : List Command) (replies : List Reply)
     (out : List ℕ) (status : Status) (final : State) (old new : Told) → start ≡ first_state c → commands ≡ s.commands
-    → (replies, final) ≡ steps start commands → Ends (concludes commands replies final) out status final old new
-    → Ends (delivers c s) out status final old new
+    → (replies, final) ≡ steps start commands → Ends (replies_outcome commands replies final) out status final old new
+    → Ends (commands_outcome c s) out status final old new
 ends_delivered c s start commands replies out status final old new is_loaded are told h =
     let all : steps (first_state c) s.commands ≡ (replies, final) = sym (rw (is_loaded, are) at told) in
     rw all (rw are at h)

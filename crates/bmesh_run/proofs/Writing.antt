@@ -6,7 +6,7 @@ use Rattle.std.specs.Option.{option_map, option_and_then}
 use Rattle.byte_sink.specs.Wrote.{with_after}
 use Rattle.byte_sink.proofs.WroteLemmas.{with_after_more}
 use Rattle.worlds.specs.Files.{Files, entry_of, put}
-use Rattle.worlds.specs.Told.{Told, asked, put_begun, wrote_of, rest_of}
+use Rattle.worlds.specs.Told.{Told, with_start, put_begun, wrote_of, rest_of}
 use Rattle.bmesh_run.specs.Whole.{GainsStart, MakesPart}
 use Rattle.worlds.specs.declared.world_fault.WorldFault.{WorldFault}
 use Rattle.worlds.specs.declared.world_fault.WorldFault.TheVariants.{Failed, NoMemory}
@@ -16,7 +16,7 @@ use Rattle.worlds.proofs.FileLemmas.{entry_of_put, put_put, put_same}
 
 -- a file was asked for, whatever came after
 pub gains_start : {T : Type 0} (r : Result T WorldFault) (old new : Told) (name : List ℕ) (purpose : Purpose)
-    → new.started ≡ (asked old name purpose).started → GainsStart r old new name purpose
+    → new.started ≡ (with_start old name purpose).started → GainsStart r old new name purpose
 gains_start (Ok _) old new name purpose h = h
 gains_start (Err Failed) old new name purpose h = h
 gains_start (Err NoMemory) old new name purpose h = (1, h)
@@ -50,16 +50,17 @@ made_written (Some fs) (Some gs) name piece rest wrote =
     ap Some (same_file name piece fs gs same here)
 
 pub file_written : (t0 t1 t2 : Told) (name piece : List ℕ)
-    → t1 ≡ record (asked t0 name Writing) { made = option_map (put name []) t0.made; begun = Some name }
+    → t1 ≡ record (with_start t0 name Writing) { made = option_map (put name []) t0.made; begun = Some name }
     → rest_of t2 ≡ rest_of t1 → wrote_of t2 ≡ with_after (wrote_of t1) piece
-    → t2 ≡ record (asked t0 name Writing) {
+    → t2 ≡ record (with_start t0 name Writing) {
       made = option_map (put name piece) t0.made;
       begun = Some name;
       out_faults =
           t2.out_faults;
     }
 file_written t0 t1 t2 name piece start rest wrote =
-    let fresh : Told = record (asked t0 name Writing) { made = option_map (put name []) t0.made; begun = Some name } in
+    let fresh : Told =
+    record (with_start t0 name Writing) { made = option_map (put name []) t0.made; begun = Some name } in
     let kept : rest_of t2 ≡ rest_of fresh = rest ∙ ap rest_of start in
     let begun : t2.begun ≡ Some name = ap (λ (t : Told). t.begun) kept in
     let others : option_map (put name []) t2.made ≡ option_map (put name []) (option_map (put name []) t0.made) =
@@ -74,15 +75,15 @@ file_written t0 t1 t2 name piece start rest wrote =
 
 -- the file of that name is the only one made, and was asked for
 pub made_begun : (t0 t1 t2 : Told) (name piece : List ℕ)
-    → t1 ≡ record (asked t0 name Writing) { made = option_map (put name []) t0.made; begun = Some name }
+    → t1 ≡ record (with_start t0 name Writing) { made = option_map (put name []) t0.made; begun = Some name }
     → rest_of t2 ≡ rest_of t1 → wrote_of t2 ≡ with_after (wrote_of t1) piece
     → t2.made ≡ option_map (put name piece) t0.made
 made_begun t0 t1 t2 name piece start rest wrote =
     ap (λ (t : Told). t.made) (file_written t0 t1 t2 name piece start rest wrote)
 
 pub started_begun : (t0 t1 t2 : Told) (name : List ℕ)
-    → t1 ≡ record (asked t0 name Writing) { made = option_map (put name []) t0.made; begun = Some name }
-    → rest_of t2 ≡ rest_of t1 → t2.started ≡ (asked t0 name Writing).started
+    → t1 ≡ record (with_start t0 name Writing) { made = option_map (put name []) t0.made; begun = Some name }
+    → rest_of t2 ≡ rest_of t1 → t2.started ≡ (with_start t0 name Writing).started
 started_begun t0 t1 t2 name start rest = ap (λ (t : Told). t.started) rest ∙ ap (λ (t : Told). t.started) start
 
 -- bytes printed after bytes

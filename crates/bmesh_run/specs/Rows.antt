@@ -10,7 +10,7 @@ use Rattle.obj_text.specs.declared.obj_fault.ObjWhy.TheVariants as obj_why
 use Rattle.script_text.specs.declared.fault.ScriptWhy.TheVariants as script_why
 use Rattle.worlds.specs.Files.{Files}
 use Rattle.bmesh_run.specs.Job.{Job, job_of, is_grid, is_tour, model_starts, script_starts, out_starts}
-use Rattle.bmesh_run.specs.Run.{refuses, outcome, due}
+use Rattle.bmesh_run.specs.Run.{refusal_outcome, outcome, due}
 use Rattle.bmesh_run.specs.declared.status.Status.TheVariants.{Done, SomeRefused, Usage, ModelRefused, ScriptRefused}
 
 -- the words of a command line on these three files
@@ -85,18 +85,18 @@ MissingVertex = outcome plain_words (files square_text (codes "delete geom=v9 co
 -- a line of another form refuses the model, whatever the script, and then the script
 abbrev pub InputsRefused : Type 0
 InputsRefused = (outcome plain_words (files (codes "v 0 0 0\nl 1 2\n") (codes "undo"))
-    ≡ refuses (ModelRefused (record { line = 2; why = obj_why.NotYet })) (codes "model line 2: NotYet\n"))
+    ≡ refusal_outcome (ModelRefused (record { line = 2; why = obj_why.NotYet })) (codes "model line 2: NotYet\n"))
     × (outcome plain_words (files square_text (codes "undo"))
-    ≡ refuses (ScriptRefused (record { line = 1; why = script_why.NotYet })) (codes "script line 1: NotYet\n"))
+    ≡ refusal_outcome (ScriptRefused (record { line = 1; why = script_why.NotYet })) (codes "script line 1: NotYet\n"))
 
 -- four words are refused, and so are a model made from a number and the program's own script
 abbrev pub WordsRefused : Type 0
 WordsRefused = (outcome (codes "model" ∷ codes "script" ∷ codes "out" ∷ codes "--scale" ∷ []) (files [] [])
-    ≡ refuses Usage (codes "usage: bmesh MODEL SCRIPT OUT [--scale N]\n"))
+    ≡ refusal_outcome Usage (codes "usage: bmesh MODEL SCRIPT OUT [--scale N]\n"))
     × (outcome (words (codes "@grid:4") (codes "script") (codes "out")) (files [] [])
-    ≡ refuses (ModelRefused (record { line = 0; why = obj_why.NotYet })) (codes "model line 0: NotYet\n"))
+    ≡ refusal_outcome (ModelRefused (record { line = 0; why = obj_why.NotYet })) (codes "model line 0: NotYet\n"))
     × (outcome (words (codes "model") (codes "@tour") (codes "out")) (files [] [])
-    ≡ refuses (ScriptRefused (record { line = 0; why = script_why.NotYet })) (codes "script line 0: NotYet\n"))
+    ≡ refusal_outcome (ScriptRefused (record { line = 0; why = script_why.NotYet })) (codes "script line 0: NotYet\n"))
 
 -- of the names that begin with `@` all others are those of files
 abbrev pub NamesOfFiles : Type 0

@@ -67,12 +67,12 @@ pub record Outcome : Type 0 where
   pub session : State
 
 -- nothing is written, one line is printed, and the session stays fresh
-abbrev pub refuses : Status → List ℕ → Outcome
-refuses status line = record { status = status; made = None; printed = line; session = fresh_state }
+abbrev pub refusal_outcome : Status → List ℕ → Outcome
+refusal_outcome status line = record { status = status; made = None; printed = line; session = fresh_state }
 
 -- some replies and the last state: the text of its complex is written, and the report printed
-abbrev pub concludes : List Command → List Reply → State → Outcome
-concludes commands replies s = record {
+abbrev pub replies_outcome : List Command → List Reply → State → Outcome
+replies_outcome commands replies s = record {
   status = if list_any is_refused replies then SomeRefused else Done;
   made = Some (text 0 s.now);
   printed = report commands replies s;
@@ -80,22 +80,22 @@ concludes commands replies s = record {
 }
 
 -- the commands of a script in order on the model's complex
-abbrev pub delivers : Complex → Script → Outcome
-delivers c s = let all = steps (first_state c) s.commands in concludes s.commands all.0 all.1
+abbrev pub commands_outcome : Complex → Script → Outcome
+commands_outcome c s = let all = steps (first_state c) s.commands in replies_outcome s.commands all.0 all.1
 
 -- with the model's complex: the script is refused, or delivered
 abbrev pub with_script : Complex → Result Script ScriptRefusal → Outcome
-with_script c (Err r) = refuses (ScriptRefused r) (script_line r)
-with_script c (Ok s) = delivers c s
+with_script c (Err r) = refusal_outcome (ScriptRefused r) (script_line r)
+with_script c (Ok s) = commands_outcome c s
 
 -- with the words: the model is refused, or goes on to the script
 abbrev pub with_model : Result Complex ObjRefusal → Result Script ScriptRefusal → Outcome
-with_model (Err r) script = refuses (ModelRefused r) (model_line r)
+with_model (Err r) script = refusal_outcome (ModelRefused r) (model_line r)
 with_model (Ok c) script = with_script c script
 
 -- the words are refused, or name the model and the script
 abbrev pub with_job : Files → Option Job → Outcome
-with_job files None = refuses Usage usage_line
+with_job files None = refusal_outcome Usage usage_line
 with_job files (Some job) = with_model (model_of job.model files) (script_named job.script files)
 
 -- the files that are due once a model is accepted: SCRIPT, and OUT where the script is accepted

@@ -5,7 +5,7 @@ use Rattle.std.specs.declared.option.Option.TheVariants.{Some}
 use Rattle.byte_sink.specs.Wrote.{with_after}
 use Rattle.byte_sink.specs.Causes.{Rose}
 use Rattle.worlds.specs.Files.{Files, bytes_of, put}
-use Rattle.worlds.specs.Told.{Told, asked}
+use Rattle.worlds.specs.Told.{Told, with_start}
 use Rattle.worlds.specs.declared.world_fault.WorldFault.{WorldFault}
 use Rattle.worlds.specs.declared.world_fault.WorldFault.TheVariants.{Failed, NoMemory}
 use Rattle.worlds.specs.declared.start.Start.{Start}
@@ -34,8 +34,8 @@ AsksFor starts old new = (n : ℕ) × (new.started ≡ old.started ++ take n sta
 
 -- the file was asked for, or there was no memory and the file was asked for or not
 abbrev pub GainsStart : {T : Type 0} → Result T WorldFault → Told → Told → List ℕ → Purpose → Type 0
-GainsStart (Ok _) old new name purpose = new.started ≡ (asked old name purpose).started
-GainsStart (Err Failed) old new name purpose = new.started ≡ (asked old name purpose).started
+GainsStart (Ok _) old new name purpose = new.started ≡ (with_start old name purpose).started
+GainsStart (Err Failed) old new name purpose = new.started ≡ (with_start old name purpose).started
 GainsStart (Err NoMemory) old new name purpose = AsksFor (record { name = name; purpose = purpose } ∷ []) old new
 
 -- the bytes are a file's first, one past a limit at most; so up to the limit they are all of them

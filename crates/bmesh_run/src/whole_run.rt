@@ -7,7 +7,7 @@ ghost use Rattle.mesh_model.specs.Valid.{IsSound};
 ghost use Rattle.mesh_session.specs.State.{fresh_state, IsSoundState};
 ghost use Rattle.byte_sink.specs.Wrote.{with_after};
 ghost use Rattle.bmesh_run.specs.Job.{out_starts};
-ghost use Rattle.bmesh_run.specs.Run.{model_line, script_line, usage_line, concludes, delivers};
+ghost use Rattle.bmesh_run.specs.Run.{model_line, script_line, usage_line, replies_outcome, commands_outcome};
 ghost use Rattle.bmesh_run.specs.Report.{report, is_refused};
 ghost use Rattle.bmesh_run.specs.Whole.{PrintsPart};
 ghost use Rattle.bmesh_run.specs.Ends.{is_answer, is_delivered, is_past_model, is_past_script, Ends, Caused, EndsBy};
@@ -105,7 +105,7 @@ fn deliver<W: World>(
 ) -> Status
     requires fresh { session.old.state ≡ fresh_state }
     requires sound { IsSound draft.now }
-    ensures ends { Ends (delivers draft.now script.now) out.now result session.new.state (W.told world.old)
+    ensures ends { Ends (commands_outcome draft.now script.now) out.now result session.new.state (W.told world.old)
         (W.told world.new) }
     ensures no_memory { result ≡ Status.NoMemory
         → (session.new.state ≡ fresh_state) ⊎ IsOnTheWay draft.now script.now session.new.state }
@@ -138,7 +138,7 @@ fn conclude<W: World>(
 ) -> Status
     requires sound { IsSoundState session.now.state }
     requires long { length replies.now ≡ length commands.now }
-    ensures ends { Ends (concludes commands.now replies.now session.now.state) out.now result session.now.state
+    ensures ends { Ends (replies_outcome commands.now replies.now session.now.state) out.now result session.now.state
         (W.told world.old) (W.told world.new) }
     ensures goes_on { is_past_script result ≡ true }
     ensures cause { Caused result (W.told world.old) (W.told world.new) }
@@ -163,7 +163,8 @@ fn print_report<W: World>(
     world: &mut W,
 ) -> Status
     requires { length replies.now ≡ length commands.now }
-    ensures status { is_answer result ≡ true → result ≡ (concludes commands.now replies.now session.now.state).status }
+    ensures status { is_answer result ≡ true
+        → result ≡ (replies_outcome commands.now replies.now session.now.state).status }
     ensures all { is_answer result ≡ true
         → W.told world.new ≡ record (W.told world.old) {
           printed =

@@ -8,7 +8,10 @@ after_twice : (told : Option (List ℕ)) (a b : List ℕ) → with_after (with_a
 after_twice None a b = refl
 after_twice (Some had) a b = ap Some (append_assoc had a b)
 
-pub with_after_more : (told mid new : Option (List ℕ)) (i n : ℕ) (bytes : List ℕ) → i ≤ length bytes → mid ≡ with_after told (take i bytes) → new ≡ with_after mid (take n (take (length bytes - i) (drop i bytes))) → new ≡ with_after told (take (i + n) bytes)
+pub with_after_more : (told mid new : Option (List ℕ)) (i n : ℕ) (bytes : List ℕ) → i ≤ length bytes
+    → mid ≡ with_after told (take i bytes) → new ≡ with_after mid (take n (take (length bytes - i) (drop i bytes)))
+    → new ≡ with_after told (take (i + n) bytes)
 with_after_more told mid new i n bytes h before step =
     step ∙ ap (λ (rest : List ℕ). with_after mid (take n rest)) (take_rest bytes i)
-    ∙ ap (λ (m : Option (List ℕ)). with_after m (take n (drop i bytes))) before ∙ after_twice told (take i bytes) (take n (drop i bytes)) ∙ ap (with_after told) (sym (take-add i n bytes))
+    ∙ ap (λ (m : Option (List ℕ)). with_after m (take n (drop i bytes))) before
+    ∙ after_twice told (take i bytes) (take n (drop i bytes)) ∙ ap (with_after told) (sym (take-add i n bytes))

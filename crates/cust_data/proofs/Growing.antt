@@ -17,7 +17,8 @@ front_holds places i n cs h = record {
 
 pub front_table : (places i n : ℕ) (cs : List Filled) → table_of (grown_front places i cs) n ≡ table_of cs n
 front_table places i n cs =
-    same_table cs (grown_front places i cs) n (layers-changed (grown places) (λ c. refl) i cs) (λ k. row_at-changed (grown places) k (λ c. cell_at-grown places c k) i cs)
+    same_table cs (grown_front places i cs) n (layers-changed (grown places) (λ c. refl) i cs)
+    (λ k. row_at-changed (grown places) k (λ c. cell_at-grown places c k) i cs)
 
 -- all columns were grown: the table has more places
 pub grown_holds : (m n : ℕ) (cs : List Filled) → ColumnsHold cs n → n ≤ m → ColumnsHold (map (grown m) cs) m
@@ -27,32 +28,48 @@ grown_holds m n cs h more = record {
 }
 
 -- the rows of more places are those of fewer, and zeros
-rows_more : (m n : ℕ) (cs ds : List Filled) → ColumnsHold cs n → n ≤ m → ((k : ℕ) → row_at ds k ≡ row_at cs k) → rows_of ds m ≡ rows_of cs n ++ replicate (m - n) (zeros (total (layers_of cs)))
+rows_more : (m n : ℕ) (cs ds : List Filled) → ColumnsHold cs n → n ≤ m → ((k : ℕ) → row_at ds k ≡ row_at cs k)
+    → rows_of ds m ≡ rows_of cs n ++ replicate (m - n) (zeros (total (layers_of cs)))
 rows_more m n cs ds h more same =
-    let count : length (replicate (m - n) (zeros (total (layers_of cs)))) ≡ m - n = length-replicate (m - n) (zeros (total (layers_of cs))) in
+    let count : length (replicate (m - n) (zeros (total (layers_of cs)))) ≡ m - n =
+    length-replicate (m - n) (zeros (total (layers_of cs))) in
     ext_get_or [] (rows_of ds m) (rows_of cs n ++ replicate (m - n) (zeros (total (layers_of cs))))
-    (omega (arith, length-rows_of ds m, length-append (rows_of cs n) (replicate (m - n) (zeros (total (layers_of cs)))), length-rows_of cs n, count))
+    (omega (
+      arith,
+      length-rows_of ds m,
+      length-append (rows_of cs n) (replicate (m - n) (zeros (total (layers_of cs)))),
+      length-rows_of cs n,
+      count,
+    ))
     (λ k low.
     let k_low : k < m = omega (arith, length-rows_of ds m) in
     row_of-table ds m k k_low ∙ (same k ∙ elim (cases_lt k n) [
-      | inl there ↦ sym (get_or_append_left (rows_of cs n) (replicate (m - n) (zeros (total (layers_of cs)))) [] k (omega (arith, length-rows_of cs n)) ∙ row_of-table cs n k there)
+      | inl there ↦ sym (get_or_append_left (rows_of cs n) (replicate (m - n) (zeros (total (layers_of cs)))) [] k
+          (omega (arith, length-rows_of cs n)) ∙ row_of-table cs n k there)
       | inr past ↦ row_at_spare n k cs h.filled past
-          ∙ sym (get_or-append_right (rows_of cs n) (replicate (m - n) (zeros (total (layers_of cs)))) n k [] (length-rows_of cs n) past
+          ∙ sym (get_or-append_right (rows_of cs n) (replicate (m - n) (zeros (total (layers_of cs)))) n k []
+          (length-rows_of cs n) past
           ∙ get_or-replicate (m - n) (k - n) (zeros (total (layers_of cs))) [] (omega arith))
     ]))
 
-pub grown_table : (m n : ℕ) (cs : List Filled) → ColumnsHold cs n → n ≤ m → table_of (map (grown m) cs) m ≡ with_places (table_of cs n) m
+pub grown_table : (m n : ℕ) (cs : List Filled) → ColumnsHold cs n → n ≤ m
+    → table_of (map (grown m) cs) m ≡ with_places (table_of cs n) m
 grown_table m n cs h more =
-    ap (λ (ls : List Layer). record { layers = ls; rows = rows_of (map (grown m) cs) m }) (layers-map (grown m) (λ c. refl) cs)
+    ap (λ (ls : List Layer). record { layers = ls; rows = rows_of (map (grown m) cs) m })
+    (layers-map (grown m) (λ c. refl) cs)
     ∙ (ap (λ (rs : List (List ℤ)). record { layers = layers_of cs; rows = rs })
     (rows_more m n cs (map (grown m) cs) h more (λ k. row_at-map (grown m) k (λ c. cell_at-grown m c k) cs))
-    ∙ ap (λ (k : ℕ). record { layers = layers_of cs; rows = rows_of cs n ++ replicate (m - k) (zeros (total (layers_of cs))) }) (sym (length-rows_of cs n)))
+    ∙ ap (λ (k : ℕ). record {
+      layers = layers_of cs;
+      rows = rows_of cs n ++ replicate (m - k) (zeros (total (layers_of cs)));
+    }) (sym (length-rows_of cs n)))
 
 -- where there are enough places, no more come
 pub enough_places : (t : LayerTable) (places : ℕ) → places ≤ length t.rows → t ≡ with_places t places
 enough_places t places le =
     let none : places - length t.rows ≡ 0 = omega arith in
-    ap (λ (rs : List (List ℤ)). record { layers = t.layers; rows = rs }) (sym (append-nil t.rows)) ∙ ap (λ (k : ℕ). record { layers = t.layers; rows = t.rows ++ replicate k (zeros (total t.layers)) }) (sym none)
+    ap (λ (rs : List (List ℤ)). record { layers = t.layers; rows = rs }) (sym (append-nil t.rows))
+    ∙ ap (λ (k : ℕ). record { layers = t.layers; rows = t.rows ++ replicate k (zeros (total t.layers)) }) (sym none)
 
 -- what a call that leaves columns xs says of the table
 pub record TableSaid (xs : List Filled) (n : ℕ) (t : LayerTable) : Type 0 where
@@ -60,13 +77,20 @@ pub record TableSaid (xs : List Filled) (n : ℕ) (t : LayerTable) : Type 0 wher
   pub said : table_of xs n ≡ t
   pub table : IsTable (table_of xs n)
 
-pub table_said : (xs ds : List Filled) (n : ℕ) (t : LayerTable) → xs ≡ ds → ColumnsHold ds n → table_of ds n ≡ t → TableSaid xs n t
+pub table_said : (xs ds : List Filled) (n : ℕ) (t : LayerTable) → xs ≡ ds → ColumnsHold ds n → table_of ds n ≡ t
+    → TableSaid xs n t
 table_said xs ds n t e h said = rw e record { holds = h; said = said; table = is_table ds n h }
 
 -- some columns were grown
-pub front_said : (xs ds cs : List Filled) (places i n : ℕ) (t : LayerTable) → xs ≡ ds → ds ≡ grown_front places i cs → ColumnsHold cs n → table_of cs n ≡ t → TableSaid xs n t
-front_said xs ds cs places i n t e grew h was = table_said xs (grown_front places i cs) n t (e ∙ grew) (front_holds places i n cs h) (front_table places i n cs ∙ was)
+pub front_said : (xs ds cs : List Filled) (places i n : ℕ) (t : LayerTable) → xs ≡ ds → ds ≡ grown_front places i cs
+    → ColumnsHold cs n → table_of cs n ≡ t → TableSaid xs n t
+front_said xs ds cs places i n t e grew h was =
+    table_said xs (grown_front places i cs) n t (e ∙ grew) (front_holds places i n cs h)
+    (front_table places i n cs ∙ was)
 
 -- all were
-pub grown_said : (xs ds cs : List Filled) (m n : ℕ) (t : LayerTable) → xs ≡ ds → ds ≡ map (grown m) cs → ColumnsHold cs n → n ≤ m → table_of cs n ≡ t → TableSaid xs m (with_places t m)
-grown_said xs ds cs m n t e grew h more was = table_said xs (map (grown m) cs) m (with_places t m) (e ∙ grew) (grown_holds m n cs h more) (grown_table m n cs h more ∙ ap (λ (x : LayerTable). with_places x m) was)
+pub grown_said : (xs ds cs : List Filled) (m n : ℕ) (t : LayerTable) → xs ≡ ds → ds ≡ map (grown m) cs
+    → ColumnsHold cs n → n ≤ m → table_of cs n ≡ t → TableSaid xs m (with_places t m)
+grown_said xs ds cs m n t e grew h more was =
+    table_said xs (map (grown m) cs) m (with_places t m) (e ∙ grew) (grown_holds m n cs h more)
+    (grown_table m n cs h more ∙ ap (λ (x : LayerTable). with_places x m) was)

@@ -6,7 +6,8 @@ use Rattle.std.proofs.lemmas.Slice.Zip.{length-zip}
 use Rattle.cust_data.specs.Mixing.{mix, mix_cell}
 
 -- lists of the same length, and what follows them, are joined pair by pair
-pub zip-append : {A B : Type 0} (xs us : List A) (ys vs : List B) → length xs ≡ length ys → zip (xs ++ us) (ys ++ vs) ≡ zip xs ys ++ zip us vs
+pub zip-append : {A B : Type 0} (xs us : List A) (ys vs : List B) → length xs ≡ length ys
+    → zip (xs ++ us) (ys ++ vs) ≡ zip xs ys ++ zip us vs
 zip-append [] us [] vs e = refl
 zip-append [] us (y ∷ ys) vs e = absurd (omega (arith, e))
 zip-append (x ∷ xs) us [] vs e = absurd (omega (arith, e))
@@ -14,10 +15,12 @@ zip-append (x ∷ xs) us (y ∷ ys) vs e = ap (λ zs. (x, y) ∷ zs) (zip-append
 
 -- as many numbers are mixed
 pub length-mix_cell : (a b : List ℤ) (num den : ℤ) → length a ≡ length b → length (mix_cell a b num den) ≡ length a
-length-mix_cell a b num den e = length-map (zip a b) (λ ((x, y) : ℤ × ℤ). mix x y num den) ∙ omega (arith, length-zip a b, e)
+length-mix_cell a b num den e = length-map (zip a b) (λ ((x, y) : ℤ × ℤ). mix x y num den)
+    ∙ omega (arith, length-zip a b, e)
 
 -- one number more
-mix_cell_push : (a b : List ℤ) (x y num den : ℤ) → length a ≡ length b → mix_cell (a ++ x ∷ []) (b ++ y ∷ []) num den ≡ mix_cell a b num den ++ mix x y num den ∷ []
+mix_cell_push : (a b : List ℤ) (x y num den : ℤ) → length a ≡ length b
+    → mix_cell (a ++ x ∷ []) (b ++ y ∷ []) num den ≡ mix_cell a b num den ++ mix x y num den ∷ []
 mix_cell_push a b x y num den e =
     rw (zip-append a (x ∷ []) b (y ∷ []) e) (map-append (λ ((x, y) : ℤ × ℤ). mix x y num den) (zip a b) ((x, y) ∷ []))
 
@@ -34,15 +37,29 @@ mixed_more a b cell num den v k same in_range before is =
     let front = mix_cell (take k a) (take k b) num den in
     let front_a : length (take k a) ≡ k = length-take-le k a (omega arith) in
     let front_b : length (take k b) ≡ k = length-take-le k b (omega arith) in
-    let count : length (mix_cell (take k a) (take k b) num den) ≡ k = length-mix_cell (take k a) (take k b) num den (front_a ∙ sym front_b) ∙ front_a in
-    let split : cell ≡ mix_cell (take k a) (take k b) num den ++ get_or a k (pos 0) ∷ drop (k + 1) a = before ∙ ap (λ xs. mix_cell (take k a) (take k b) num den ++ xs) (drop_more a k (pos 0) in_a) in
-    let here : get_or cell k (pos 0) ≡ get_or a k (pos 0) = ap (λ (xs : List ℤ). get_or xs k (pos 0)) split ∙ get_or_at (mix_cell (take k a) (take k b) num den) (get_or a k (pos 0)) (drop (k + 1) a) (pos 0) k count in
-    let value : v ≡ mix (get_or a k (pos 0)) (get_or b k (pos 0)) num den = is ∙ ap (λ (x : ℤ). mix x (get_or b k (pos 0)) num den) here in
-    rw (split, set_at (mix_cell (take k a) (take k b) num den) (get_or a k (pos 0)) (drop (k + 1) a) v k count, value, take_more a k (pos 0) in_a, take_more b k (pos 0) in_range, mix_cell_push (take k a) (take k b) (get_or a k (pos 0)) (get_or b k (pos 0)) num den (front_a ∙ sym front_b))
-    (sym (append_assoc (mix_cell (take k a) (take k b) num den) (mix (get_or a k (pos 0)) (get_or b k (pos 0)) num den ∷ []) (drop (k + 1) a)))
+    let count : length (mix_cell (take k a) (take k b) num den) ≡ k =
+    length-mix_cell (take k a) (take k b) num den (front_a ∙ sym front_b) ∙ front_a in
+    let split : cell ≡ mix_cell (take k a) (take k b) num den ++ get_or a k (pos 0) ∷ drop (k + 1) a =
+    before ∙ ap (λ xs. mix_cell (take k a) (take k b) num den ++ xs) (drop_more a k (pos 0) in_a) in
+    let here : get_or cell k (pos 0) ≡ get_or a k (pos 0) =
+    ap (λ (xs : List ℤ). get_or xs k (pos 0)) split
+    ∙ get_or_at (mix_cell (take k a) (take k b) num den) (get_or a k (pos 0)) (drop (k + 1) a) (pos 0) k count in
+    let value : v ≡ mix (get_or a k (pos 0)) (get_or b k (pos 0)) num den =
+    is ∙ ap (λ (x : ℤ). mix x (get_or b k (pos 0)) num den) here in
+    rw (
+      split,
+      set_at (mix_cell (take k a) (take k b) num den) (get_or a k (pos 0)) (drop (k + 1) a) v k count,
+      value,
+      take_more a k (pos 0) in_a,
+      take_more b k (pos 0) in_range,
+      mix_cell_push (take k a) (take k b) (get_or a k (pos 0)) (get_or b k (pos 0)) num den (front_a ∙ sym front_b),
+    )
+    (sym (append_assoc (mix_cell (take k a) (take k b) num den)
+    (mix (get_or a k (pos 0)) (get_or b k (pos 0)) num den ∷ []) (drop (k + 1) a)))
 
 -- all numbers are mixed
-pub mixed_all : (a b cell : List ℤ) (num den : ℤ) (k : ℕ) → length a ≡ length b → length b ≤ k → cell ≡ mixed_to a b num den k → cell ≡ mix_cell a b num den
+pub mixed_all : (a b cell : List ℤ) (num den : ℤ) (k : ℕ) → length a ≡ length b → length b ≤ k
+    → cell ≡ mixed_to a b num den k → cell ≡ mix_cell a b num den
 mixed_all a b cell num den k same past e =
     let past_a : length a ≤ k = omega arith in
     e ∙ rw (take_all k a past_a, take_all k b past, drop_all k a past_a) (append-nil (mix_cell a b num den))

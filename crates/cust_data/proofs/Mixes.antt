@@ -31,21 +31,28 @@ below n zero d some le = rw (div-eq_of_lt some) (between_none n)
 below n (suc k) d some le = between_neg n (k / d) (omega (arith, div_below k d (suc n) some (omega arith)))
 
 -- a part of a number, from none of it to the whole, is between 0 and the number
-pub share_between : (z num den : ℤ) → pos 0 ≤ℤ num → num ≤ℤ den → pos 0 <ℤ den → IsBetween (pos 0) z (floor_div (z *ℤ num) den)
+pub share_between : (z num den : ℤ) → pos 0 ≤ℤ num → num ≤ℤ den → pos 0 <ℤ den
+    → IsBetween (pos 0) z (floor_div (z *ℤ num) den)
 share_between (pos n) (pos m) (pos d) from until parts = between_pos n (n * m / d) (part_le n m d (omega (arith, ints)))
-share_between (negsuc n) (pos m) (pos d) from until parts = below n (suc n * m) d (omega (arith, ints)) (mul-le-mul_left (suc n) (omega (arith, ints)))
+share_between (negsuc n) (pos m) (pos d) from until parts =
+    below n (suc n * m) d (omega (arith, ints)) (mul-le-mul_left (suc n) (omega (arith, ints)))
 share_between z (negsuc m) den from until parts = absurd (omega (arith, ints))
 share_between z (pos m) (negsuc d) from until parts = absurd (omega (arith, ints))
 
 -- the product of a number below 2^64 in size and one below 2^63 fits 128 bits
-pub product_fits : (whole num den : ℤ) → unsigned_abs whole < 2 ^ 64 → pos 0 ≤ℤ num → num ≤ℤ den → den <ℤ pos 9223372036854775808 → FitsSigned w128 (whole *ℤ num)
-product_fits whole (pos m) (pos d) small from until few = fits_signed_mul w128 whole (pos m) 18446744073709551615 9223372036854775807 (omega arith) (omega (arith, ints)) (lit< tt)
+pub product_fits : (whole num den : ℤ) → unsigned_abs whole < 2 ^ 64 → pos 0 ≤ℤ num → num ≤ℤ den
+    → den <ℤ pos 9223372036854775808 → FitsSigned w128 (whole *ℤ num)
+product_fits whole (pos m) (pos d) small from until few =
+    fits_signed_mul w128 whole (pos m) 18446744073709551615 9223372036854775807 (omega arith) (omega (arith, ints))
+    (lit< tt)
 product_fits whole (negsuc m) den small from until few = absurd (omega (arith, ints))
 product_fits whole (pos m) (negsuc d) small from until few = absurd (omega (arith, ints))
 
 -- a number that is cast and back
-pub share_is : (whole num den r : ℤ) → FitsSigned w128 whole → FitsSigned w128 num → FitsSigned w128 den → FitsSigned w128 (whole *ℤ num)
-    → r ≡ int_div_euclid (to_z w128 (of_z w128 (to_z w128 (of_z w128 whole) *ℤ to_z w128 (of_z w128 num)))) (to_z w128 (of_z w128 den))
+pub share_is : (whole num den r : ℤ) → FitsSigned w128 whole → FitsSigned w128 num → FitsSigned w128 den
+    → FitsSigned w128 (whole *ℤ num)
+    → r ≡ int_div_euclid (to_z w128 (of_z w128 (to_z w128 (of_z w128 whole) *ℤ to_z w128 (of_z w128 num))))
+    (to_z w128 (of_z w128 den))
     → r ≡ floor_div (whole *ℤ num) den
 share_is whole num den r whole_fits num_fits den_fits product_fits e = e ∙ simp to_z-of_z
 
@@ -63,7 +70,8 @@ pub record SumWithin (count : ℕ) (sum : ℤ) : Type 0 where
   pub high : sum ≤ℤ pos (count * 9223372036854775807)
 
 -- one number more
-pub within_more : (count : ℕ) (sum value : ℤ) → SumWithin count sum → FitsSigned w64 value → SumWithin (count + 1) (sum +ℤ value)
+pub within_more : (count : ℕ) (sum value : ℤ) → SumWithin count sum → FitsSigned w64 value
+    → SumWithin (count + 1) (sum +ℤ value)
 within_more count sum value h fits = record { low = omega (arith, ints); high = omega (arith, ints) }
 
 -- the sum fits 128 bits

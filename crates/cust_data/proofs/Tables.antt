@@ -24,7 +24,8 @@ pub length-with_row : (t : LayerTable) (p : ℕ) (row : List ℤ) → length (wi
 length-with_row t p row = length-set t.rows p row
 
 -- the row written
-pub row_of-with_row_same : (t : LayerTable) (p : ℕ) (row : List ℤ) → p < length t.rows → row_of (with_row t p row) p ≡ row
+pub row_of-with_row_same : (t : LayerTable) (p : ℕ) (row : List ℤ) → p < length t.rows
+    → row_of (with_row t p row) p ≡ row
 row_of-with_row_same t p row low = get_or-set_same t.rows p row [] low
 
 -- the row at another place stays
@@ -32,21 +33,28 @@ pub row_of-with_row_other : (t : LayerTable) (p k : ℕ) (row : List ℤ) → k 
 row_of-with_row_other t p k row other = get_or-set_other t.rows p k row [] other
 
 -- a row as long as the others leaves a table
-pub is_table-with_row : (t : LayerTable) (p : ℕ) (row : List ℤ) → IsTable t → length row ≡ total t.layers → IsTable (with_row t p row)
-is_table-with_row t p row h wide = record { layers = h.layers; fitted = All-set (λ (r : List ℤ). length r ≡ total t.layers) t.rows p row wide h.fitted }
+pub is_table-with_row : (t : LayerTable) (p : ℕ) (row : List ℤ) → IsTable t → length row ≡ total t.layers
+    → IsTable (with_row t p row)
+is_table-with_row t p row h wide = record {
+  layers = h.layers;
+  fitted = All-set (λ (r : List ℤ). length r ≡ total t.layers) t.rows p row wide h.fitted;
+}
 
 -- ---- places
 
 -- the rows that come are those that were missing
 pub length-with_places : (t : LayerTable) (n : ℕ) → length (with_places t n).rows ≡ length t.rows + (n - length t.rows)
-length-with_places t n = length-append t.rows (replicate (n - length t.rows) (zeros (total t.layers))) ∙ ap (λ (k : ℕ). length t.rows + k) (length-replicate (n - length t.rows) (zeros (total t.layers)))
+length-with_places t n = length-append t.rows (replicate (n - length t.rows) (zeros (total t.layers)))
+    ∙ ap (λ (k : ℕ). length t.rows + k) (length-replicate (n - length t.rows) (zeros (total t.layers)))
 
 -- a row that was there stays
 pub row_of-with_places : (t : LayerTable) (n p : ℕ) → p < length t.rows → row_of (with_places t n) p ≡ row_of t p
-row_of-with_places t n p low = get_or_append_left t.rows (replicate (n - length t.rows) (zeros (total t.layers))) [] p low
+row_of-with_places t n p low = get_or_append_left t.rows (replicate (n - length t.rows) (zeros (total t.layers))) [] p
+    low
 
 -- a new row has zeros
-pub row_of-with_places_new : (t : LayerTable) (n p : ℕ) → length t.rows ≤ p → p < n → row_of (with_places t n) p ≡ zeros (total t.layers)
+pub row_of-with_places_new : (t : LayerTable) (n p : ℕ) → length t.rows ≤ p → p < n
+    → row_of (with_places t n) p ≡ zeros (total t.layers)
 row_of-with_places_new t n p past low =
     get_or-append_right t.rows (replicate (n - length t.rows) (zeros (total t.layers))) (length t.rows) p [] refl past
     ∙ get_or-replicate (n - length t.rows) (p - length t.rows) (zeros (total t.layers)) [] (omega arith)
@@ -58,7 +66,8 @@ pub total-with_layer : (t : LayerTable) (l : Layer) → total (with_layer t l).l
 total-with_layer t l = sum_by_push (λ (x : Layer). x.width) t.layers l
 
 -- which are zeros behind the others
-pub row_of-with_layer : (t : LayerTable) (l : Layer) (p : ℕ) → p < length t.rows → row_of (with_layer t l) p ≡ row_of t p ++ zeros l.width
+pub row_of-with_layer : (t : LayerTable) (l : Layer) (p : ℕ) → p < length t.rows
+    → row_of (with_layer t l) p ≡ row_of t p ++ zeros l.width
 row_of-with_layer t l p low = get_or-map (λ (row : List ℤ). row ++ zeros l.width) t.rows p [] [] low
 
 -- as many rows as before
@@ -71,10 +80,17 @@ length-with_layer t l = length-map t.rows (λ (row : List ℤ). row ++ zeros l.w
 length-rules : (layers : List Layer) → length (rules layers) ≡ total layers
 length-rules [] = refl
 length-rules (l ∷ layers) =
-    omega (arith, length-append (replicate l.width l.rule) (rules layers), length-replicate l.width l.rule, length-rules layers, sum_by-cons (λ (x : Layer). x.width) l layers)
+    omega (
+      arith,
+      length-append (replicate l.width l.rule) (rules layers),
+      length-replicate l.width l.rule,
+      length-rules layers,
+      sum_by-cons (λ (x : Layer). x.width) l layers,
+    )
 
 -- mixed rows are as long as the rows
-pub length-mix_row : (layers : List Layer) (a b : List ℤ) (num den : ℤ) → length a ≡ total layers → length b ≡ total layers → length (mix_row layers a b num den) ≡ total layers
+pub length-mix_row : (layers : List Layer) (a b : List ℤ) (num den : ℤ) → length a ≡ total layers
+    → length b ≡ total layers → length (mix_row layers a b num den) ≡ total layers
 length-mix_row layers a b num den wide_a wide_b =
     length-map (zip (rules layers) (zip a b)) (λ ((rule, (x, y)) : Rule × (ℤ × ℤ)). mix_by rule x y num den)
     ∙ omega (arith, length-zip (rules layers) (zip a b), length-zip a b, length-rules layers, wide_a, wide_b)
@@ -98,8 +114,10 @@ LiesWithin low high row = All (λ (v : ℤ). (low ≤ℤ v) × (v ≤ℤ high)) 
 within_numbers : (low high num den : ℤ) → pos 0 ≤ℤ num → num ≤ℤ den → pos 0 <ℤ den → (rs : List Rule) (a b : List ℤ)
     → LiesWithin low high a → LiesWithin low high b → LiesWithin low high (mix_numbers rs a b num den)
 within_numbers low high num den from until parts [] a b in_a in_b = All-nil (λ (v : ℤ). (low ≤ℤ v) × (v ≤ℤ high))
-within_numbers low high num den from until parts (rule ∷ rs) [] b in_a in_b = All-nil (λ (v : ℤ). (low ≤ℤ v) × (v ≤ℤ high))
-within_numbers low high num den from until parts (rule ∷ rs) (x ∷ a) [] in_a in_b = All-nil (λ (v : ℤ). (low ≤ℤ v) × (v ≤ℤ high))
+within_numbers low high num den from until parts (rule ∷ rs) [] b in_a in_b =
+    All-nil (λ (v : ℤ). (low ≤ℤ v) × (v ≤ℤ high))
+within_numbers low high num den from until parts (rule ∷ rs) (x ∷ a) [] in_a in_b =
+    All-nil (λ (v : ℤ). (low ≤ℤ v) × (v ≤ℤ high))
 within_numbers low high num den from until parts (rule ∷ rs) (x ∷ a) (y ∷ b) in_a in_b =
     let P = λ (v : ℤ). (low ≤ℤ v) × (v ≤ℤ high) in
     let first_x : (low ≤ℤ x) × (x ≤ℤ high) = All-head P x a in_a in
@@ -109,6 +127,8 @@ within_numbers low high num den from until parts (rule ∷ rs) (x ∷ a) (y ∷ 
     (within_numbers low high num den from until parts rs a b (All-tail P x a in_a) (All-tail P y b in_b))
 
 -- mixed rows stay within the bounds of both rows
-pub mix_row_within : (low high : ℤ) (layers : List Layer) (a b : List ℤ) (num den : ℤ) → pos 0 ≤ℤ num → num ≤ℤ den → pos 0 <ℤ den
+pub mix_row_within : (low high : ℤ) (layers : List Layer) (a b : List ℤ) (num den : ℤ) → pos 0 ≤ℤ num → num ≤ℤ den
+    → pos 0 <ℤ den
     → LiesWithin low high a → LiesWithin low high b → LiesWithin low high (mix_row layers a b num den)
-mix_row_within low high layers a b num den from until parts in_a in_b = within_numbers low high num den from until parts (rules layers) a b in_a in_b
+mix_row_within low high layers a b num den from until parts in_a in_b =
+    within_numbers low high num den from until parts (rules layers) a b in_a in_b

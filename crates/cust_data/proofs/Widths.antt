@@ -14,9 +14,14 @@ pub cell_small : (n : ℕ) → IsTrue (is_width n) → n * 8 < 92233720368547758
 cell_small n h = omega (arith, width_bounds n h)
 
 -- a cell of the width is written
-pub holds-set : (n : ℕ) (cells : List (List ℤ)) (place : ℕ) (cell : List ℤ) → ColumnHolds n cells → length cell ≡ n → ColumnHolds n (set cells place cell)
-holds-set n cells place cell h wide = record { allowed = h.allowed; wide = All-set (λ (c : List ℤ). length c ≡ n) cells place cell wide h.wide }
+pub holds-set : (n : ℕ) (cells : List (List ℤ)) (place : ℕ) (cell : List ℤ) → ColumnHolds n cells → length cell ≡ n
+    → ColumnHolds n (set cells place cell)
+holds-set n cells place cell h wide = record {
+  allowed = h.allowed;
+  wide = All-set (λ (c : List ℤ). length c ≡ n) cells place cell wide h.wide;
+}
 
 -- a cell that was read is wide
-pub wide_read : (n : ℕ) (cells : List (List ℤ)) (place : ℕ) (cell : List ℤ) → ColumnHolds n cells → place < length cells → cell ≡ get_or cells place cell → length cell ≡ n
+pub wide_read : (n : ℕ) (cells : List (List ℤ)) (place : ℕ) (cell : List ℤ) → ColumnHolds n cells → place < length cells
+    → cell ≡ get_or cells place cell → length cell ≡ n
 wide_read n cells place cell h in_range read = ap length read ∙ h.wide place cell in_range

@@ -83,7 +83,10 @@ distinct_parts (x ∷ xs) ys d =
     record {
       left = ((λ h. d.0 (member_left xs ys x h)), r.left);
       right = r.right;
-      apart = λ j a b. elim a [ inl e ↦ d.0 (member_right xs ys x (member_along ys b (sym e))) | inr h ↦ r.apart j h b ];
+      apart = λ j a b. elim a [
+        | inl e ↦ d.0 (member_right xs ys x (member_along ys b (sym e)))
+        | inr h ↦ r.apart j h b
+      ];
     }
 
 -- such parts make one

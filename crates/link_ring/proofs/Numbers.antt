@@ -16,7 +16,10 @@ either false c e = e
 -- the test finds each member
 found : (xs : List ℕ) (k : ℕ) → HasMember xs k → is_member xs k ≡ true
 found [] k h = absurd h
-found (x ∷ xs) k h = elim h [ inl e ↦ rw (eq-eqb x k e) refl | inr r ↦ either (eqb x k) (is_member xs k) (found xs k r) ]
+found (x ∷ xs) k h = elim h [
+  | inl e ↦ rw (eq-eqb x k e) refl
+  | inr r ↦ either (eqb x k) (is_member xs k) (found xs k r)
+]
 
 -- a number that the test does not find is no member
 pub no_member : (xs : List ℕ) (k : ℕ) → is_member xs k ≡ false → HasMember xs k → ⊥

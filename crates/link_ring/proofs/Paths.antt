@@ -19,7 +19,8 @@ abbrev pub IsLimit : {K : Type 0} → LinkMap K → ℕ → Type 0
 IsLimit {K} m limit = (xs : List K) → AllDistinct xs → AllKeys m xs → length xs ≤ limit
 
 -- the path is the segment up to `first`
-pub path-segment : {K : Type 0} (eq : K → K → Bool) → IsIdentityTest eq → (m : LinkMap K) (first at : K) (xs : List K) (n : ℕ)
+pub path-segment : {K : Type 0} (eq : K → K → Bool) → IsIdentityTest eq
+    → (m : LinkMap K) (first at : K) (xs : List K) (n : ℕ)
     → IsSegment m at xs first → (HasMember xs first → ⊥) → length xs ≤ n → path eq m first n at ≡ xs
 path-segment eq t m first at [] zero l f h = refl
 path-segment eq t m first at [] (suc n) l f h =

@@ -26,7 +26,8 @@ removed {K} {m} {m1} {n} {k} a b p q = record {
 }
 
 -- the ring is the rest
-pub removed_ring : {K : Type 0} {m n : LinkMap K} {k : K} (xs : List K) → Removed m n k → IsRingFrom m k xs → IsRing n xs
+pub removed_ring : {K : Type 0} {m n : LinkMap K} {k : K} (xs : List K) → Removed m n k → IsRingFrom m k xs
+    → IsRing n xs
 removed_ring [] t r = tt
 removed_ring {K} {m} {n} {k} (y ∷ ys) t r =
     let after = r.leads.0.0 in let before = prev_last m y ys k r.leads.1 in
@@ -42,7 +43,8 @@ removed_ring {K} {m} {n} {k} (y ∷ ys) t r =
     }
 
 -- only links of k's ring are changed
-pub removed_others : {K : Type 0} {m n : LinkMap K} {k : K} (xs : List K) → Removed m n k → IsRingFrom m k xs → SameOutside m n (k ∷ xs)
+pub removed_others : {K : Type 0} {m n : LinkMap K} {k : K} (xs : List K) → Removed m n k → IsRingFrom m k xs
+    → SameOutside m n (k ∷ xs)
 removed_others {K} {m} {n} {k} xs t r = record {
   has = t.has;
   next = λ j h. t.next j (λ e. h (member_along (k ∷ xs) (prev_member xs r) e));

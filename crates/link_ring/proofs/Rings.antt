@@ -25,15 +25,18 @@ turned m (x ∷ xs) (y ∷ ys) r =
     }
 
 -- the ring of a key is one list
-pub ring_unique : {K : Type 0} {m : LinkMap K} {k : K} {xs ys : List K} → IsRingFrom m k xs → IsRingFrom m k ys → xs ≡ ys
+pub ring_unique : {K : Type 0} {m : LinkMap K} {k : K} {xs ys : List K} → IsRingFrom m k xs → IsRingFrom m k ys
+    → xs ≡ ys
 ring_unique {K} {m} {k} {xs} {ys} a b = segment_unique m k xs ys k a.leads b.leads a.distinct.0 b.distinct.0
 
 -- a member of a ring, and the ring read from it
-pub in_middle : {K : Type 0} (m : LinkMap K) (xs : List K) (k : K) (ys : List K) → IsRing m (xs ++ k ∷ ys) → IsRingFrom m k (ys ++ xs)
+pub in_middle : {K : Type 0} (m : LinkMap K) (xs : List K) (k : K) (ys : List K) → IsRing m (xs ++ k ∷ ys)
+    → IsRingFrom m k (ys ++ xs)
 in_middle m xs k ys r = turned m xs (k ∷ ys) r
 
 -- two rings that share a member have the same members
-pub rings_meet : {K : Type 0} (m : LinkMap K) (xs ys : List K) (k j : K) → IsRing m xs → IsRing m ys → HasMember xs k → HasMember ys k → HasMember xs j → HasMember ys j
+pub rings_meet : {K : Type 0} (m : LinkMap K) (xs ys : List K) (k j : K) → IsRing m xs → IsRing m ys → HasMember xs k
+    → HasMember ys k → HasMember xs j → HasMember ys j
 rings_meet m xs ys k j r s a b h =
     let x = around xs k a in let y = around ys k b in
     let same : x.after ++ x.before ≡ y.after ++ y.before = ring_unique
@@ -71,7 +74,8 @@ pub record SameOn {K : Type 0} (m n : LinkMap K) (xs : List K) : Type 0 where
   pub prev : (j : K) → HasMember xs j → n.prev j ≡ m.prev j
 
 -- keys stay where the links agree
-keys_on : {K : Type 0} (m n : LinkMap K) (xs : List K) → ((j : K) → HasMember xs j → n.has j ≡ m.has j) → AllKeys m xs → AllKeys n xs
+keys_on : {K : Type 0} (m n : LinkMap K) (xs : List K) → ((j : K) → HasMember xs j → n.has j ≡ m.has j) → AllKeys m xs
+    → AllKeys n xs
 keys_on m n [] f h = tt
 keys_on m n (x ∷ xs) f h = (is_key_along (f x (inl refl)) h.0, keys_on m n xs (λ j a. f j (inr a)) h.1)
 
@@ -87,10 +91,15 @@ ring_same {K} {m} {n} (k ∷ xs) s r = record {
 -- a ring that shares no member with a change is a ring after it
 pub ring_elsewhere : {K : Type 0} {m n : LinkMap K} {zs : List K} (xs : List K)
     → SameOutside m n zs → ((j : K) → HasMember xs j → HasMember zs j → ⊥) → IsRing m xs → IsRing n xs
-ring_elsewhere xs s apart r = ring_same xs (record { has = λ j h. s.has j; next = λ j h. s.next j (apart j h); prev = λ j h. s.prev j (apart j h) }) r
+ring_elsewhere xs s apart r = ring_same xs (record {
+  has = λ j h. s.has j;
+  next = λ j h. s.next j (apart j h);
+  prev = λ j h. s.prev j (apart j h);
+}) r
 
 -- one change, and then another
-pub outside_then : {K : Type 0} {m n o : LinkMap K} {xs ys : List K} (zs : List K) → SameOutside m n xs → SameOutside n o ys
+pub outside_then : {K : Type 0} {m n o : LinkMap K} {xs ys : List K} (zs : List K) → SameOutside m n xs
+    → SameOutside n o ys
     → ((j : K) → HasMember xs j → HasMember zs j) → ((j : K) → HasMember ys j → HasMember zs j) → SameOutside m o zs
 outside_then zs a b p q = record {
   has = λ j. b.has j ∙ a.has j;
@@ -99,7 +108,8 @@ outside_then zs a b p q = record {
 }
 
 -- a change within a list is one within a larger list
-pub outside_more : {K : Type 0} {m n : LinkMap K} {xs : List K} (zs : List K) → SameOutside m n xs → ((j : K) → HasMember xs j → HasMember zs j) → SameOutside m n zs
+pub outside_more : {K : Type 0} {m n : LinkMap K} {xs : List K} (zs : List K) → SameOutside m n xs
+    → ((j : K) → HasMember xs j → HasMember zs j) → SameOutside m n zs
 outside_more zs a p = record {
   has = a.has;
   next = λ j h. a.next j (λ r. h (p j r));

@@ -7,13 +7,20 @@ use Rattle.link_ring.proofs.Numbers.{no_member}
 
 -- next and previous links of the circle
 abbrev circle : LinkMap ℕ
-circle = record { has = λ k. nat_lt k 4; next = slice_index (3 ∷ 2 ∷ 0 ∷ 1 ∷ []); prev = slice_index (2 ∷ 3 ∷ 1 ∷ 0 ∷ []) }
+circle = record {
+  has = λ k. nat_lt k 4;
+  next = slice_index (3 ∷ 2 ∷ 0 ∷ 1 ∷ []);
+  prev = slice_index (2 ∷ 3 ∷ 1 ∷ 0 ∷ []);
+}
 
 -- the circle is a ring, read from 0
 from_zero : IsRing circle (0 ∷ 3 ∷ 1 ∷ 2 ∷ [])
 from_zero = record {
   leads = ((refl, refl), ((refl, refl), ((refl, refl), (refl, refl))));
-  distinct = (no_member (3 ∷ 1 ∷ 2 ∷ []) 0 refl, (no_member (1 ∷ 2 ∷ []) 3 refl, (no_member (2 ∷ []) 1 refl, (no_member [] 2 refl, tt))));
+  distinct = (
+    no_member (3 ∷ 1 ∷ 2 ∷ []) 0 refl,
+    (no_member (1 ∷ 2 ∷ []) 3 refl, (no_member (2 ∷ []) 1 refl, (no_member [] 2 refl, tt))),
+  );
   keys = (refl, (refl, (refl, (refl, tt))));
 }
 
@@ -21,7 +28,10 @@ from_zero = record {
 from_one : IsRing circle (1 ∷ 2 ∷ 0 ∷ 3 ∷ [])
 from_one = record {
   leads = ((refl, refl), ((refl, refl), ((refl, refl), (refl, refl))));
-  distinct = (no_member (2 ∷ 0 ∷ 3 ∷ []) 1 refl, (no_member (0 ∷ 3 ∷ []) 2 refl, (no_member (3 ∷ []) 0 refl, (no_member [] 3 refl, tt))));
+  distinct = (
+    no_member (2 ∷ 0 ∷ 3 ∷ []) 1 refl,
+    (no_member (0 ∷ 3 ∷ []) 2 refl, (no_member (3 ∷ []) 0 refl, (no_member [] 3 refl, tt))),
+  );
   keys = (refl, (refl, (refl, (refl, tt))));
 }
 

@@ -12,7 +12,8 @@ pub is_key_along : {a b : Bool} → b ≡ a → IsTrue a → IsTrue b
 is_key_along e h = let P : Bool → Type 0 = IsTrue in subst P (sym e) h
 
 -- keys stay where the keys are the same
-pub keys_same : {K : Type 0} (m n : LinkMap K) (xs : List K) → ((j : K) → n.has j ≡ m.has j) → AllKeys m xs → AllKeys n xs
+pub keys_same : {K : Type 0} (m n : LinkMap K) (xs : List K) → ((j : K) → n.has j ≡ m.has j) → AllKeys m xs
+    → AllKeys n xs
 keys_same m n [] f h = tt
 keys_same m n (x ∷ xs) f h = (is_key_along (f x) h.0, keys_same m n xs f h.1)
 
@@ -61,14 +62,16 @@ pub record Halves {K : Type 0} (m : LinkMap K) (a : K) (xs : List K) (y : K) (ys
   pub right : IsSegment m y ys b
 
 -- a segment parts at each of its keys
-pub segment_split : {K : Type 0} (m : LinkMap K) (a : K) (xs : List K) (y : K) (ys : List K) (b : K) → IsSegment m a (xs ++ y ∷ ys) b → Halves m a xs y ys b
+pub segment_split : {K : Type 0} (m : LinkMap K) (a : K) (xs : List K) (y : K) (ys : List K) (b : K)
+    → IsSegment m a (xs ++ y ∷ ys) b → Halves m a xs y ys b
 segment_split m a [] y ys b l = record { left = l.0; right = l.1 }
 segment_split m a (x ∷ xs) y ys b l =
     let r = segment_split m x xs y ys b l.1 in
     record { left = (l.0, r.left); right = r.right }
 
 -- two segments, end to end, are one
-pub segment_join : {K : Type 0} (m : LinkMap K) (a : K) (xs : List K) (y : K) (ys : List K) (b : K) → IsSegment m a xs y → IsSegment m y ys b → IsSegment m a (xs ++ y ∷ ys) b
+pub segment_join : {K : Type 0} (m : LinkMap K) (a : K) (xs : List K) (y : K) (ys : List K) (b : K) → IsSegment m a xs y
+    → IsSegment m y ys b → IsSegment m a (xs ++ y ∷ ys) b
 segment_join m a [] y ys b l r = (l, r)
 segment_join m a (x ∷ xs) y ys b l r = (l.0, segment_join m x xs y ys b l.1 r)
 
@@ -95,7 +98,8 @@ last_member a [] = inl refl
 last_member a (x ∷ xs) = inr (last_member x xs)
 
 -- the end's previous key is the last
-pub prev_last : {K : Type 0} (m : LinkMap K) (a : K) (xs : List K) (b : K) → IsSegment m a xs b → m.prev b ≡ last_of a xs
+pub prev_last : {K : Type 0} (m : LinkMap K) (a : K) (xs : List K) (b : K) → IsSegment m a xs b
+    → m.prev b ≡ last_of a xs
 prev_last m a [] b l = l.1
 prev_last m a (x ∷ xs) b l = prev_last m x xs b l.1
 

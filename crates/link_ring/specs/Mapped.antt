@@ -23,9 +23,11 @@ mapped_to f [] x h = absurd h
 mapped_to f (y ∷ xs) x h = elim h [ inl e ↦ inl (ap f e) | inr r ↦ inr (mapped_to f xs x r) ]
 
 -- different members have different images where no two have the same
-pub distinct_map : {A B : Type 0} (f : A → B) (xs : List A) → ((a b : A) → HasMember xs a → HasMember xs b → f a ≡ f b → a ≡ b) → AllDistinct xs → AllDistinct (map f xs)
+pub distinct_map : {A B : Type 0} (f : A → B) (xs : List A)
+    → ((a b : A) → HasMember xs a → HasMember xs b → f a ≡ f b → a ≡ b) → AllDistinct xs → AllDistinct (map f xs)
 distinct_map f [] one d = tt
 distinct_map f (x ∷ xs) one d = (
-  (λ h. let t = mapped_from f xs (f x) h in let P = HasMember xs in d.0 (subst P (one t.of x (inr t.member) (inl refl) t.is) t.member)),
+  (λ h. let t = mapped_from f xs (f x) h in let P =
+      HasMember xs in d.0 (subst P (one t.of x (inr t.member) (inl refl) t.is) t.member)),
   distinct_map f xs (λ a b p q e. one a b (inr p) (inr q) e) d.1,
 )

@@ -43,17 +43,20 @@ module _ {M : Type 1} {𝓤 : Ura M} (𝓛 : Logic 𝓤) (l : Lft) (R : RattleTy
   lends_place b o Empty = Lends-nothing 𝓛 (place_owns R b o Empty) l
   lends_place b o (Value x) = λ κ ts. Shares-less 𝓛 R R.lives l inside (L.shares 𝓛) x κ ts b o
   lends_place b o (Link n) =
-      Lends-first 𝓛 (part_at u32 full_share n b o) (fwand (froom (ty_int w32) b o) (froom (raw (lone R.mir)) b o)) (shared_of u32 n b o) l
+      Lends-first 𝓛 (part_at u32 full_share n b o) (fwand (froom (ty_int w32) b o) (froom (raw (lone R.mir)) b o))
+      (shared_of u32 n b o) l
       (λ κ ts. Shares-less 𝓛 u32 [] l (⊑_static l) ((copy_shared u32-field u32-copy).shares M 𝓤 𝓛) n κ ts b o)
 
   lends_row : (b o : ℕ) (ps : List (Place R.Denot)) → Lends 𝓛 (row_owns R b o ps) (row_lends R b o ps) l
   lends_row b o [] = Lends-nothing 𝓛 ftrue l
   lends_row b o (p ∷ ps) =
       let s = type_size R in
-      Lends-both 𝓛 (place_owns R b o p) (row_owns R b (o + s) ps) (place_lends R b o p) (row_lends R b (o + s) ps) l (lends_place b o p) (lends_row b (o + s) ps)
+      Lends-both 𝓛 (place_owns R b o p) (row_owns R b (o + s) ps) (place_lends R b o p) (row_lends R b (o + s) ps) l
+      (lends_place b o p) (lends_row b (o + s) ps)
 
   pub lends_chunk : (at : Ptr) (ps : List (Place R.Denot)) → Lends 𝓛 (chunk_owns R at ps) (chunk_lends R at ps) l
   lends_chunk (block_ptr b o) ps =
       let row = row_owns R b o ps in let all = fits R (length ps) in let right = token R (length ps) (block_ptr b o) in
-      Lends-both 𝓛 all (fsep row right) (said all) (row_lends R b o ps) l (Lends-said 𝓛 all (λ _. tt) l) (Lends-first 𝓛 row right (row_lends R b o ps) l (lends_row b o ps))
+      Lends-both 𝓛 all (fsep row right) (said all) (row_lends R b o ps) l (Lends-said 𝓛 all (λ _. tt) l)
+      (Lends-first 𝓛 row right (row_lends R b o ps) l (lends_row b o ps))
   lends_chunk null_ptr ps = Lends-false 𝓛 (said ffalse) l

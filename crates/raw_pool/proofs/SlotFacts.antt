@@ -1,7 +1,8 @@
 -- Facts on the slots of a pool, for the crates above.
 --     live_below, live_value      a live slot is below the capacity, and has a value
---     live_over, live_apart, live_longer      a slot stays live under a write over its value, a write elsewhere, and growth
---     spare_less, spare_more, spare_same, spare_push      the spare slots after `put`, `take`, a write through `get_mut`, and growth
+-- live_over, live_apart, live_longer a slot stays live under a write over its value, a write elsewhere, and growth
+-- spare_less, spare_more, spare_same, spare_push the spare slots after `put`, `take`, a write through `get_mut`, and
+-- growth
 use Rattle.std.proofs.Common.{◌≢◌, ℕ, ◌<◌, ◌++◌, List, length, slice_set, Option, Some, None, ap, ◌∙◌}
 use Rattle.std.proofs.lemmas.List.{get_or-set_same, get_or-set_other, get_or_append_left}
 use Rattle.raw_pool.specs.Slots.{holds, IsLive}

@@ -16,9 +16,13 @@ get_empty (suc n) zero = refl
 get_empty (suc n) (suc k) = get_empty n k
 
 -- all are empty at the end
-pub swept_empty : {X : Type 0} {was : ℕ → Place X} {ps : List (Place X)} {i n : ℕ} → Sweep (λ k. Empty) was ps i n → n ≤ i → ps ≡ replicate n Empty
-swept_empty {ps = ps} {n = n} s le = ext_get_or Empty ps (replicate n Empty) (s.long ∙ sym (length-replicate n Empty)) (λ k h. s.past k (let m = s.long in omega arith) ∙ sym (get_empty n k))
+pub swept_empty : {X : Type 0} {was : ℕ → Place X} {ps : List (Place X)} {i n : ℕ} → Sweep (λ k. Empty) was ps i n
+    → n ≤ i → ps ≡ replicate n Empty
+swept_empty {ps = ps} {n = n} s le = ext_get_or Empty ps (replicate n Empty) (s.long ∙ sym (length-replicate n Empty))
+    (λ k h. s.past k (let m = s.long in omega arith) ∙ sym (get_empty n k))
 
 -- all are as in the other list at the end
-pub swept_copy : {X : Type 0} {was : ℕ → Place X} {ps : List (Place X)} {i n : ℕ} (qs : List (Place X)) → Sweep (λ k. get_or qs k Empty) was ps i n → n ≤ i → length qs ≡ n → ps ≡ qs
-swept_copy {ps = ps} qs s le e = ext_get_or Empty ps qs (s.long ∙ sym e) (λ k h. s.past k (let m = s.long in omega arith))
+pub swept_copy : {X : Type 0} {was : ℕ → Place X} {ps : List (Place X)} {i n : ℕ} (qs : List (Place X))
+    → Sweep (λ k. get_or qs k Empty) was ps i n → n ≤ i → length qs ≡ n → ps ≡ qs
+swept_copy {ps = ps} qs s le e = ext_get_or Empty ps qs (s.long ∙ sym e)
+    (λ k h. s.past k (let m = s.long in omega arith))

@@ -16,7 +16,8 @@ pub length-values : {X : Type 0} (ps : List (Place X)) → length (values ps) �
 length-values [] = refl
 length-values (p ∷ ps) = ap suc (length-values ps)
 
-pub values-set : {X : Type 0} (ps : List (Place X)) (s : ℕ) (p : Place X) → values (set ps s p) ≡ set (values ps) s (value_of p)
+pub values-set : {X : Type 0} (ps : List (Place X)) (s : ℕ) (p : Place X)
+    → values (set ps s p) ≡ set (values ps) s (value_of p)
 values-set [] s p = refl
 values-set (q ∷ ps) zero p = refl
 values-set (q ∷ ps) (suc s) p = ap (λ (r : List (Option _)). value_of q ∷ r) (values-set ps s p)
@@ -48,14 +49,16 @@ link_below (p ∷ ps) zero n e = omega arith
 link_below (p ∷ ps) (suc s) n e = omega (arith, link_below ps s n e)
 
 -- ---- the spare slots
-pub spare_less : {X : Type 0} (xs : List (Option X)) (s : ℕ) (x : X) → s < length xs → get_or xs s None ≡ None → spare_count (set xs s (Some x)) + 1 ≡ spare_count xs
+pub spare_less : {X : Type 0} (xs : List (Option X)) (s : ℕ) (x : X) → s < length xs → get_or xs s None ≡ None
+    → spare_count (set xs s (Some x)) + 1 ≡ spare_count xs
 spare_less [] s x lt e = absurd (omega arith)
 spare_less (None ∷ xs) zero x lt e = refl
 spare_less (Some y ∷ xs) zero x lt e = cc
 spare_less (None ∷ xs) (suc s) x lt e = let h = spare_less xs s x (omega arith) e in omega arith
 spare_less (Some y ∷ xs) (suc s) x lt e = spare_less xs s x (omega arith) e
 
-pub spare_more : {X : Type 0} (xs : List (Option X)) (s : ℕ) (x : X) → get_or xs s None ≡ Some x → spare_count (set xs s None) ≡ spare_count xs + 1
+pub spare_more : {X : Type 0} (xs : List (Option X)) (s : ℕ) (x : X) → get_or xs s None ≡ Some x
+    → spare_count (set xs s None) ≡ spare_count xs + 1
 spare_more [] s x e = cc
 spare_more (None ∷ xs) zero x e = cc
 spare_more (Some y ∷ xs) zero x e = refl
@@ -63,7 +66,8 @@ spare_more (None ∷ xs) (suc s) x e = let h = spare_more xs s x e in omega arit
 spare_more (Some y ∷ xs) (suc s) x e = spare_more xs s x e
 
 -- a value is written over a value
-pub spare_same : {X : Type 0} (xs : List (Option X)) (s : ℕ) (x y : X) → get_or xs s None ≡ Some x → spare_count (set xs s (Some y)) ≡ spare_count xs
+pub spare_same : {X : Type 0} (xs : List (Option X)) (s : ℕ) (x y : X) → get_or xs s None ≡ Some x
+    → spare_count (set xs s (Some y)) ≡ spare_count xs
 spare_same [] s x y e = cc
 spare_same (None ∷ xs) zero x y e = cc
 spare_same (Some z ∷ xs) zero x y e = refl
@@ -77,13 +81,15 @@ spare_le (Some y ∷ xs) = let h = spare_le xs in omega arith
 
 -- ---- the chain
 -- it does not see a write elsewhere
-pub chain-set : {X : Type 0} (ps : List (Place X)) (s : ℕ) (p : Place X) (head : ℕ) (ss : List ℕ) → (Among ss s → ⊥) → Chain ps head ss → Chain (set ps s p) head ss
+pub chain-set : {X : Type 0} (ps : List (Place X)) (s : ℕ) (p : Place X) (head : ℕ) (ss : List ℕ) → (Among ss s → ⊥)
+    → Chain ps head ss → Chain (set ps s p) head ss
 chain-set ps s p head [] out c = tt
 chain-set ps s p head (t ∷ ts) out c =
     (c.0, c.1, get_or-set_other ps s t p Empty (λ e. out (inl e)) ∙ c.2, chain-set ps s p c.1 ts (λ a. out (inr a)) c.3)
 
 -- it goes through links alone
-chain_link : {X : Type 0} (ps : List (Place X)) (head : ℕ) (ss : List ℕ) (t : ℕ) (x : X) → Chain ps head ss → get_or ps t Empty ≡ Value x → Among ss t → ⊥
+chain_link : {X : Type 0} (ps : List (Place X)) (head : ℕ) (ss : List ℕ) (t : ℕ) (x : X) → Chain ps head ss
+    → get_or ps t Empty ≡ Value x → Among ss t → ⊥
 chain_link ps head [] t x c e a = a
 chain_link ps head (s ∷ ss) t x c e a = elim a [
   | inl h ↦ (let f = sym c.2 ∙ ap (λ (i : ℕ). get_or ps i Empty) h ∙ e in cc)
@@ -100,7 +106,8 @@ pub record Head {X : Type 0} (ps : List (Place X)) (head spare : ℕ) : Type 0 w
   pub distinct : Distinct rest
   pub count : suc (length rest) ≡ spare
 
-head_at : {X : Type 0} (ps : List (Place X)) (head spare : ℕ) (free : List ℕ) → Chain ps head free → Distinct free → length free ≡ spare → 1 ≤ spare → Head ps head spare
+head_at : {X : Type 0} (ps : List (Place X)) (head spare : ℕ) (free : List ℕ) → Chain ps head free → Distinct free
+    → length free ≡ spare → 1 ≤ spare → Head ps head spare
 head_at ps head spare [] c d n pos = absurd (omega arith)
 head_at ps head spare (s ∷ ss) c d n pos = record {
   rest = ss;
@@ -112,17 +119,20 @@ head_at ps head spare (s ∷ ss) c d n pos = record {
   count = n;
 }
 
-pub head_of : {X : Type 0} (ps : List (Place X)) (head spare : ℕ) → IsFree ps head spare → 1 ≤ spare_count (values ps) → Head ps head spare
+pub head_of : {X : Type 0} (ps : List (Place X)) (head spare : ℕ) → IsFree ps head spare → 1 ≤ spare_count (values ps)
+    → Head ps head spare
 head_of ps head spare f pos = head_at ps head spare f.free f.chain f.distinct f.count (let a = f.all in omega arith)
 
 -- the head is filled, and its link is the head now
-pub free_filled : {X : Type 0} (ps : List (Place X)) (head spare link : ℕ) (x : X) → IsFree ps head spare → 1 ≤ spare_count (values ps) → get_or ps head Empty ≡ Link link → IsFree (set ps head (Value x)) link (spare - 1)
+pub free_filled : {X : Type 0} (ps : List (Place X)) (head spare link : ℕ) (x : X) → IsFree ps head spare
+    → 1 ≤ spare_count (values ps) → get_or ps head Empty ≡ Link link → IsFree (set ps head (Value x)) link (spare - 1)
 free_filled {X} ps head spare link x f pos at =
     let h = head_of ps head spare f pos in
     let same : h.next ≡ link = (let e = sym h.at ∙ at in cc) in
     let low = link_below ps head h.next h.at in
     let none : get_or (values ps) head None ≡ None = value_at ps head ∙ ap value_of h.at in
-    let fewer : spare_count (set (values ps) head (Some x)) + 1 ≡ spare_count (values ps) = spare_less (values ps) head x (let l = length-values ps in omega arith) none in
+    let fewer : spare_count (set (values ps) head (Some x)) + 1 ≡ spare_count (values ps) =
+    spare_less (values ps) head x (let l = length-values ps in omega arith) none in
     let P = λ (k : ℕ). Chain ps k h.rest in
     record {
       free = h.rest;
@@ -133,7 +143,8 @@ free_filled {X} ps head spare link x f pos at =
     }
 
 -- a place is vacated, and is the head now
-pub free_vacated : {X : Type 0} (ps : List (Place X)) (head spare s : ℕ) (x : X) → IsFree ps head spare → get_or ps s Empty ≡ Value x → IsFree (set ps s (Link head)) s (spare + 1)
+pub free_vacated : {X : Type 0} (ps : List (Place X)) (head spare s : ℕ) (x : X) → IsFree ps head spare
+    → get_or ps s Empty ≡ Value x → IsFree (set ps s (Link head)) s (spare + 1)
 free_vacated {X} ps head spare s x f at =
     let out = chain_link ps head f.free s x f.chain at in
     let some : get_or (values ps) s None ≡ Some x = value_at ps s ∙ ap value_of at in
@@ -141,18 +152,25 @@ free_vacated {X} ps head spare s x f at =
     let low : s < length ps = (let l = live_below (values ps) s x some in let n = length-values ps in omega arith) in
     record {
       free = s ∷ f.free;
-      chain = (refl, head, get_or-set_same ps s (Link head) Empty low, chain-set ps s (Link head) head f.free out f.chain);
+      chain = (
+        refl,
+        head,
+        get_or-set_same ps s (Link head) Empty low,
+        chain-set ps s (Link head) head f.free out f.chain,
+      );
       distinct = (out, f.distinct);
       count = (let n = f.count in omega arith);
       all = ap spare_count (values-set ps s (Link head)) ∙ (let a = f.all in omega arith);
     }
 
 -- a value is written over a value
-pub free_kept : {X : Type 0} (ps : List (Place X)) (head spare s : ℕ) (x w : X) → IsFree ps head spare → get_or ps s Empty ≡ Value x → IsFree (set ps s (Value w)) head spare
+pub free_kept : {X : Type 0} (ps : List (Place X)) (head spare s : ℕ) (x w : X) → IsFree ps head spare
+    → get_or ps s Empty ≡ Value x → IsFree (set ps s (Value w)) head spare
 free_kept ps head spare s x w f at = record {
   free = f.free;
   chain = chain-set ps s (Value w) head f.free (chain_link ps head f.free s x f.chain at) f.chain;
   distinct = f.distinct;
   count = f.count;
-  all = ap spare_count (values-set ps s (Value w)) ∙ spare_same (values ps) s x w (value_at ps s ∙ ap value_of at) ∙ f.all;
+  all = ap spare_count (values-set ps s (Value w)) ∙ spare_same (values ps) s x w (value_at ps s ∙ ap value_of at)
+      ∙ f.all;
 }

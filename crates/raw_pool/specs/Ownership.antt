@@ -34,7 +34,8 @@ module _ (R : RattleType) where
   abbrev pub place_owns : ℕ → ℕ → Place R.Denot → Fml
   place_owns b o Empty = froom (raw (lone R.mir)) b o
   place_owns b o (Value x) = part_at R full_share x b o
-  place_owns b o (Link n) = fsep (part_at u32 full_share n b o) (fwand (froom (ty_int w32) b o) (froom (raw (lone R.mir)) b o))
+  place_owns b o (Link n) = fsep (part_at u32 full_share n b o)
+      (fwand (froom (ty_int w32) b o) (froom (raw (lone R.mir)) b o))
 
   -- places side by side
   abbrev pub row_owns : ℕ → ℕ → List (Place R.Denot) → Fml

@@ -21,7 +21,8 @@ of_sum (Some (inr n)) = Link n
 
 -- how the logic stores a list of places
 abbrev pub places_code : {X : Type 0} → Coded X → Coded (List (Place X))
-places_code {X} c = coded_list (code_by (Option (X ⊎ ℕ)) (coded_option (coded⊎ c coded_ℕ)) to_sum of_sum (elim [ Empty ↦ refl | Value x ↦ refl | Link n ↦ refl ]))
+places_code {X} c = coded_list (code_by (Option (X ⊎ ℕ)) (coded_option (coded⊎ c coded_ℕ)) to_sum of_sum
+    (elim [ Empty ↦ refl | Value x ↦ refl | Link n ↦ refl ]))
 
 module _ {X : Type 0} where
   -- the place at the index is there and holds nothing

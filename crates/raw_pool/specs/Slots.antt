@@ -26,7 +26,8 @@ pub record IsFirstLive {X : Type 0} (xs : List (Option X)) (low s : ℕ) : Type 
   pub live : IsLive xs s
   pub none : (k : ℕ) → low ≤ k → k < s → get_or xs k None ≡ None
 
--- each slot is as it was, and some vacant ones come after them: where the old pool had fewer spare ones than n, fewer than what lacked and a chunk
+-- each slot is as it was, and some vacant ones come after them: where the old pool had fewer spare ones than n, fewer
+-- than what lacked and a chunk
 pub record GrowsFor {X : Type 0} (old new : List (Option X)) (n chunk : ℕ) : Type 0 where
   pub more : ℕ
   pub same : new ≡ old ++ replicate more None

@@ -34,7 +34,8 @@ pub fn parse(alloc: Global, text: &[u8]) -> Result<Script, ScriptFault>
 fn script_of_lines(alloc: Global, lines: &[&[u8]]) -> Result<Script, ScriptFault>
     requires { length lines.now ≤ 65537 }
     ensures { let ls = map (λ l. l.now) lines.now in
-        Answers refusal_of result (unless_unknown (position is_unknown ls) (filter_map command_at (enumerate_from 0 ls))) }
+        Answers refusal_of result
+        (unless_unknown (position is_unknown ls) (filter_map command_at (enumerate_from 0 ls))) }
 {
     let mut commands = Sequence::new(alloc);
     for (k, line) in lines.iter().enumerate() {

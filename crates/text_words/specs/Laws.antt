@@ -15,4 +15,5 @@ NaturalsReturn = (most n : ℕ) → 0 < most → most ≤ 18 → n < 10 ^ most �
 
 -- a signed number that is printed is read again
 abbrev pub IntegersReturn : Type 0
-IntegersReturn = (most : ℕ) (z : ℤ) → 0 < most → most ≤ 18 → neg_ℤ (pos (10 ^ most)) <ℤ z → z <ℤ pos (10 ^ most) → integer most (signed_decimal z) ≡ Some z
+IntegersReturn = (most : ℕ) (z : ℤ) → 0 < most → most ≤ 18 → neg_ℤ (pos (10 ^ most)) <ℤ z → z <ℤ pos (10 ^ most)
+    → integer most (signed_decimal z) ≡ Some z

@@ -54,7 +54,8 @@ capped most ds = if is_numeral ds then Some (min most (value ds)) else None
 -- the number that an optional minus and 1 to so many digits spell, or None for any other word
 abbrev pub integer : ℕ → List ℕ → Option ℤ
 integer most [] = None
-integer most (b ∷ ds) = if b == 45 then option_map (λ n. neg_ℤ (pos n)) (natural most ds) else option_map pos (natural most (b ∷ ds))
+integer most (b ∷ ds) = if b == 45 then option_map (λ n. neg_ℤ (pos n)) (natural most ds) else option_map pos
+    (natural most (b ∷ ds))
 
 -- a word is a given text
 abbrev pub is_text : List ℕ → List ℕ → Bool

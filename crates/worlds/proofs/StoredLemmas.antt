@@ -6,6 +6,8 @@ use Rattle.worlds.specs.Stored.{Stored, told_of, append_begun}
 use Rattle.worlds.proofs.FileLemmas.{wrote_append}
 
 -- what is written is at the end of the begun file, if any
-pub wrote_of_written : (s s' : Stored) (in_faults out_faults : ℕ) (bytes : List ℕ) → s' ≡ record s { made = append_begun s.begun bytes s.made }
+pub wrote_of_written : (s s' : Stored) (in_faults out_faults : ℕ) (bytes : List ℕ)
+    → s' ≡ record s { made = append_begun s.begun bytes s.made }
     → wrote_of (told_of s' in_faults out_faults) ≡ with_after (wrote_of (told_of s in_faults out_faults)) bytes
-wrote_of_written s s' in_faults out_faults bytes h = ap (λ (x : Stored). wrote_of (told_of x in_faults out_faults)) h ∙ wrote_append s.begun bytes s.made
+wrote_of_written s s' in_faults out_faults bytes h =
+    ap (λ (x : Stored). wrote_of (told_of x in_faults out_faults)) h ∙ wrote_append s.begun bytes s.made

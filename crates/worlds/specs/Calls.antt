@@ -7,7 +7,7 @@ use Rattle.byte_sink.specs.Wrote.{with_after}
 use Rattle.byte_sink.specs.Causes.{Rose}
 use Rattle.worlds.specs.Faults.{has_failed, CountsOneIf}
 use Rattle.worlds.specs.Files.{bytes_of, put}
-use Rattle.worlds.specs.Told.{Told, asked}
+use Rattle.worlds.specs.Told.{Told, with_start}
 use Rattle.worlds.specs.declared.world_fault.WorldFault.{WorldFault}
 use Rattle.worlds.specs.declared.world_fault.WorldFault.TheVariants.{Failed, NoMemory}
 use Rattle.worlds.specs.declared.start.Purpose.TheVariants.{Reading, Writing}
@@ -26,8 +26,9 @@ IsIdle old new piece result = length piece ≡ 0 → (result ≡ Ok 0) × (new �
 
 -- a file is read from its beginning
 abbrev pub StartsRead : Told → Told → List ℕ → Result (Unit {0}) WorldFault → Type 0
-StartsRead old new name (Ok _) = new ≡ record (asked old name Reading) { rest = option_map (bytes_of name) old.files }
-StartsRead old new name (Err Failed) = FailsIn (asked old name Reading) new
+StartsRead old new name (Ok _) = new ≡
+    record (with_start old name Reading) { rest = option_map (bytes_of name) old.files }
+StartsRead old new name (Err Failed) = FailsIn (with_start old name Reading) new
 StartsRead old new name (Err NoMemory) = new ≡ old
 
 -- the first bytes of the piece are the next of the file, and none only at its end
@@ -50,8 +51,9 @@ FailsStart old new name = Rose old.out_faults new.out_faults
 
 -- a file is begun, and has no bytes
 abbrev pub StartsWrite : Told → Told → List ℕ → Result (Unit {0}) WorldFault → Type 0
-StartsWrite old new name (Ok _) = new ≡ record (asked old name Writing) { made = option_map (put name []) old.made; begun = Some name }
-StartsWrite old new name (Err Failed) = FailsStart (asked old name Writing) new name
+StartsWrite old new name (Ok _) = new ≡ record (with_start old name Writing)
+    { made = option_map (put name []) old.made; begun = Some name }
+StartsWrite old new name (Err Failed) = FailsStart (with_start old name Writing) new name
 StartsWrite old new name (Err NoMemory) = new ≡ old
 
 -- an end of writing failed: the file is still begun, or no file is

@@ -20,7 +20,15 @@ pub record Stored : Type 0 where
 
 -- no files, nothing done yet, and pieces of any length
 abbrev pub nothing_stored : Stored
-nothing_stored = record { files = []; rest = []; made = []; begun = None; printed = []; started = []; piece = 2 ^ 64 - 1 }
+nothing_stored = record {
+  files = [];
+  rest = [];
+  made = [];
+  begun = None;
+  printed = [];
+  started = [];
+  piece = 2 ^ 64 - 1;
+}
 
 -- all of it is told, with two counts
 abbrev pub told_of : Stored → ℕ → ℕ → Told

@@ -7,7 +7,8 @@ use Rattle.worlds.specs.Files.{Files, entry_of, put}
 use Rattle.worlds.specs.declared.start.Start.{Start}
 use Rattle.worlds.specs.declared.start.Purpose.{Purpose}
 
--- the files, what is left of the one being read, what was made, begun, printed and asked for, and two counts of faults; of an
+-- the files, what is left of the one being read, what was made, begun, printed and asked for, and two counts of faults;
+-- of an
 -- optional part a world may tell nothing, which is None, but of begun None says that no file is begun
 pub record Told : Type 0 where
   pub files : Option Files
@@ -20,8 +21,8 @@ pub record Told : Type 0 where
   pub out_faults : ℕ
 
 -- the same, and a file was asked for
-abbrev pub asked : Told → List ℕ → Purpose → Told
-asked t name purpose = record t { started = t.started ++ record { name = name; purpose = purpose } ∷ [] }
+abbrev pub with_start : Told → List ℕ → Purpose → Told
+with_start t name purpose = record t { started = t.started ++ record { name = name; purpose = purpose } ∷ [] }
 
 -- the files with these bytes under the begun name
 abbrev pub put_begun : Option (List ℕ) → List ℕ → Option Files → Option Files

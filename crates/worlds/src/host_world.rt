@@ -1,7 +1,7 @@
 ghost use Rattle.std.specs.Prelude.{◌≡◌, ◌<◌, ◌≤◌, [], length, take, OnOk, OnErr, IfOk, IfErr, IfSome};
 ghost use Rattle.byte_sink.specs.Causes.{CountsFault};
 ghost use Rattle.byte_sink.specs.Wrote.{with_after};
-ghost use Rattle.worlds.specs.Told.{asked, wrote_of, rest_of};
+ghost use Rattle.worlds.specs.Told.{with_start, wrote_of, rest_of};
 ghost use Rattle.worlds.specs.Calls.{FailsIn, FailsOut, StartsRead, ReadsNext, StartsWrite, Finishes, Prints, IsIdle, CountsIn, CountsOut};
 ghost use Rattle.worlds.specs.Faults.{one_more};
 ghost use Rattle.worlds.specs.Memory.{as_world};
@@ -90,7 +90,7 @@ impl HostWorld {
 
     // Notes that a file was asked for.
     fn note(&mut self, name: &str, purpose: Purpose) -> Result<(), WorldFault>
-        ensures ok { OnOk result (self.new ≡ asked self.old name.now purpose) }
+        ensures ok { OnOk result (self.new ≡ with_start self.old name.now purpose) }
         ensures err { OnErr result (self.new ≡ self.old) }
         ensures memory { IfErr result (λ e. e ≡ NoMemory) }
     {

@@ -160,7 +160,8 @@ impl Sink for MemoryWorld {
     fn write(&mut self, from: &[u8]) -> Result<usize, WriteFault>
         ensures most { IfOk result (λ n. n ≤ length from.now) }
         ensures some { IfOk result (λ n. 0 < length from.now → 0 < n) }
-        ensures wrote { IfOk result (λ n. wrote_of (memory_told self.new) ≡ with_after (wrote_of (memory_told self.old)) (take n from.now)) }
+        ensures wrote { IfOk result (λ n. wrote_of (memory_told self.new)
+            ≡ with_after (wrote_of (memory_told self.old)) (take n from.now)) }
         ensures fault { OnErr result (wrote_of (memory_told self.new) ≡ wrote_of (memory_told self.old)) }
         ensures empty { length from.now ≡ 0 → result ≡ Ok 0 }
         ensures others { rest_of (memory_told self.new) ≡ rest_of (memory_told self.old) }

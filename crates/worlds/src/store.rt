@@ -110,7 +110,8 @@ impl Store {
 
     /// Reads a file from its beginning; a name that isn't there has no bytes.
     pub fn start_read(&mut self, name: &[u8]) -> Result<(), NoMemory>
-        ensures ok { OnOk result (self.new ≡ record (also_asked self.old name.now Reading) { rest = bytes_of name.now self.old.files }) }
+        ensures ok { OnOk result (self.new ≡ record (also_asked self.old name.now Reading)
+            { rest = bytes_of name.now self.old.files }) }
         ensures err { OnErr result (self.new ≡ self.old) }
     {
         let bytes = self.copy_of(name)?;
@@ -142,7 +143,8 @@ impl Store {
 
     /// Makes a file with no bytes, and begins it.
     pub fn start_write(&mut self, name: &[u8]) -> Result<(), NoMemory>
-        ensures ok { OnOk result (self.new ≡ record (also_asked self.old name.now Writing) { made = put name.now [] self.old.made; begun = Some name.now }) }
+        ensures ok { OnOk result (self.new ≡ record (also_asked self.old name.now Writing)
+            { made = put name.now [] self.old.made; begun = Some name.now }) }
         ensures err { OnErr result (self.new ≡ self.old) }
     {
         let begun = Text::of(self.alloc, name)?;
@@ -166,7 +168,8 @@ impl Store {
     pub fn write(&mut self, from: &[u8]) -> Result<usize, NoMemory>
         ensures count { IfOk result (λ n. n ≡ min self.old.piece (length from.now)) }
         ensures some { IfOk result (λ n. 0 < length from.now → 0 < n) }
-        ensures ok { IfOk result (λ n. self.new ≡ record self.old { made = append_begun self.old.begun (take n from.now) self.old.made }) }
+        ensures ok { IfOk result (λ n. self.new
+            ≡ record self.old { made = append_begun self.old.begun (take n from.now) self.old.made }) }
         ensures err { OnErr result (self.new ≡ self.old) }
     {
         let n = self.piece.min(from.len());

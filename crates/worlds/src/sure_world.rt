@@ -88,7 +88,8 @@ impl Sink for SureWorld {
     fn write(&mut self, from: &[u8]) -> Result<usize, WriteFault>
         ensures most { IfOk result (λ n. n ≤ length from.now) }
         ensures some { IfOk result (λ n. 0 < length from.now → 0 < n) }
-        ensures wrote { IfOk result (λ n. wrote_of (sure_told self.new) ≡ with_after (wrote_of (sure_told self.old)) (take n from.now)) }
+        ensures wrote { IfOk result (λ n. wrote_of (sure_told self.new)
+            ≡ with_after (wrote_of (sure_told self.old)) (take n from.now)) }
         ensures fault { OnErr result (wrote_of (sure_told self.new) ≡ wrote_of (sure_told self.old)) }
         ensures empty { length from.now ≡ 0 → (result ≡ Ok 0) × (self.new ≡ self.old) }
         ensures others { rest_of (sure_told self.new) ≡ rest_of (sure_told self.old) }

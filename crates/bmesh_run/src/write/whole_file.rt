@@ -4,7 +4,7 @@ ghost use Rattle.mesh_model.specs.Valid.{IsValid};
 ghost use Rattle.byte_sink.specs.Wrote.{with_after};
 ghost use Rattle.obj_text.specs.Written.{text};
 ghost use Rattle.worlds.specs.Files.{put};
-ghost use Rattle.worlds.specs.Told.{asked};
+ghost use Rattle.worlds.specs.Told.{with_start};
 ghost use Rattle.bmesh_run.specs.Whole.{MakesPart, OnlyWrites, GainsStart, PrintsPart, CausesOut};
 ghost use Rattle.worlds.specs.declared.start.Purpose.TheVariants.{Writing};
 
@@ -21,7 +21,7 @@ pub fn write_file<W: World, S: Shape>(
     shape: &S,
 ) -> Result<(), WorldFault>
     requires { IsValid (S.complex shape.now) }
-    ensures ok { OnOk result (W.told world.new ≡ record (asked (W.told world.old) name.now Writing) {
+    ensures ok { OnOk result (W.told world.new ≡ record (with_start (W.told world.old) name.now Writing) {
       made = option_map (put name.now (text 0 (S.complex shape.now))) (W.told world.old).made;
       begun = None;
     }) }
@@ -43,7 +43,7 @@ pub fn begin_file<W: World, S: Shape>(
     shape: &S,
 ) -> Result<(), WorldFault>
     requires { IsValid (S.complex shape.now) }
-    ensures ok { OnOk result (W.told world.new ≡ record (asked (W.told world.old) name.now Writing) {
+    ensures ok { OnOk result (W.told world.new ≡ record (with_start (W.told world.old) name.now Writing) {
       made = option_map (put name.now (text 0 (S.complex shape.now))) (W.told world.old).made;
       begun = Some name.now;
     }) }

@@ -8,7 +8,8 @@ pub returns : goal.returns
 returns c =
     let num : FitsSigned w64 c.args.num = c.ranges.num in
     let den : FitsSigned w64 c.args.den = c.ranges.den in
-    mixed_all c.args.cell.now c.args.other.now c.loop-k.cell c.args.num c.args.den c.loop-k.k c.requires.wide c.loop-k-test.false (simp to_z-of_z at c.loop-k.invariant)
+    mixed_all c.args.cell.now c.args.other.now c.loop-k.cell c.args.num c.args.den c.loop-k.k c.requires.wide
+    c.loop-k-test.false (simp to_z-of_z at c.loop-k.invariant)
 
 -- one number more is mixed
 pub loop-k-preserved : goal.loop-k-preserved
@@ -19,4 +20,6 @@ loop-k-preserved c =
     let x : FitsSigned w64 (get_or c.loop-k.cell c.loop-k.k (pos 0)) = search rules in
     let y : FitsSigned w64 (get_or c.args.other.now c.loop-k.k (pos 0)) = search rules in
     simp to_z-of_z
-    (mixed_more c.args.cell.now c.args.other.now c.loop-k.cell c.args.num c.args.den c.mix.result c.loop-k.k c.requires.wide c.loop-k-test.true (simp to_z-of_z at c.loop-k.invariant) (simp to_z-of_z at c.mix.ensures.mixed))
+    (mixed_more c.args.cell.now c.args.other.now c.loop-k.cell c.args.num c.args.den c.mix.result c.loop-k.k
+    c.requires.wide c.loop-k-test.true (simp to_z-of_z at c.loop-k.invariant)
+    (simp to_z-of_z at c.mix.ensures.mixed))

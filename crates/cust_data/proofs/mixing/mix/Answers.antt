@@ -40,7 +40,8 @@ lies_between c =
     mixed_between c.args.a c.args.b c.share-step.result (rw (← a, ← b) between)
 
 -- so the sum in 128 bits is that number
-sum_is : (c : After-share-step) → to_z w128 (of_z w128 c.from-a.result) +ℤ to_z w128 (of_z w128 c.share-step.result) ≡ c.args.a +ℤ c.share-step.result
+sum_is : (c : After-share-step) → to_z w128 (of_z w128 c.from-a.result) +ℤ to_z w128 (of_z w128 c.share-step.result)
+    ≡ c.args.a +ℤ c.share-step.result
 sum_is c =
     let a_fits : FitsSigned w128 c.from-a.result = record { sfits = c.from-a.type_inv } in
     let step_fits : FitsSigned w128 c.share-step.result = record { sfits = c.share-step.type_inv } in
@@ -62,5 +63,9 @@ overflow_cast-result c = rw (sum_is c, to_z-of_z w128 (c.args.a +ℤ c.share-ste
 pub returns : goal.returns
 returns c =
     let sum = c.args.a +ℤ c.share-step.result in
-    rw (sum_is c, to_z-of_z w128 (c.args.a +ℤ c.share-step.result) (sum_fits_wide c), to_z-of_z w64 (c.args.a +ℤ c.share-step.result) (sum_fits c))
+    rw (
+      sum_is c,
+      to_z-of_z w128 (c.args.a +ℤ c.share-step.result) (sum_fits_wide c),
+      to_z-of_z w64 (c.args.a +ℤ c.share-step.result) (sum_fits c),
+    )
     record { mixed = ap (λ (x : ℤ). c.args.a +ℤ x) (step_is c); between = lies_between c }

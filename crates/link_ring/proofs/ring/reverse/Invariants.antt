@@ -13,4 +13,5 @@ invariant-loop-first g l = record {
 
 -- the keys ahead, by the links as they were
 abbrev pub decreases-loop-first : goal.decreases-loop-first
-decreases-loop-first g l = length (path g.K.PartialEq.eq (g.L.Links.links l.initial.links) l.first (g.L.Links.key_limit l.initial.links) l.at)
+decreases-loop-first g l = length (path g.K.PartialEq.eq (g.L.Links.links l.initial.links) l.first
+    (g.L.Links.key_limit l.initial.links) l.at)

@@ -7,6 +7,7 @@ returns-clause-ring g c = λ xs r. c.take_out.ensures.ring (c.args.new ∷ xs) (
 
 pub returns-clause-others : goal.returns-clause-others
 returns-clause-others g c = λ xs r.
-    outside_then (c.args.new ∷ c.args.old ∷ xs) (c.insert_after.ensures.others xs r) (c.take_out.ensures.others (c.args.new ∷ xs) (c.insert_after.ensures.ring xs r))
+    outside_then (c.args.new ∷ c.args.old ∷ xs) (c.insert_after.ensures.others xs r)
+    (c.take_out.ensures.others (c.args.new ∷ xs) (c.insert_after.ensures.ring xs r))
     (λ j h. h)
     (λ j h. elim h [ inl e ↦ inr (inl e) | inr t ↦ elim t [ inl e ↦ inl e | inr u ↦ inr (inr u) ] ])

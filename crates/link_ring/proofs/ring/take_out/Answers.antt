@@ -10,13 +10,20 @@ set_next-requires g c =
 
 pub set_prev-requires : goal.set_prev-requires
 set_prev-requires g c =
-    is_key_along (c.set_next.ensures.sets.has c.next-after.result ∙ ap (g.L.Links.links c.args.links.now).has c.next-after.ensures) (next_key c.requires.0 c.requires.1)
+    is_key_along (c.set_next.ensures.sets.has c.next-after.result
+    ∙ ap (g.L.Links.links c.args.links.now).has c.next-after.ensures) (next_key c.requires.0 c.requires.1)
 
 pub returns-then-eq-clause-others : goal.returns-then-eq-clause-others
-returns-then-eq-clause-others g c = λ xs r. removed_others xs (removed c.set_next.ensures.sets c.set_prev.ensures.sets c.prev-before.ensures c.next-after.ensures) r
+returns-then-eq-clause-others g c = λ xs r.
+    removed_others xs (removed c.set_next.ensures.sets c.set_prev.ensures.sets c.prev-before.ensures
+    c.next-after.ensures) r
 
 pub returns-else-eq-clause-ring : goal.returns-else-eq-clause-ring
-returns-else-eq-clause-ring g c = λ xs r. removed_ring xs (removed c.set_next.ensures.sets c.set_prev.ensures.sets c.prev-before.ensures c.next-after.ensures) r
+returns-else-eq-clause-ring g c = λ xs r.
+    removed_ring xs (removed c.set_next.ensures.sets c.set_prev.ensures.sets c.prev-before.ensures c.next-after.ensures)
+    r
 
 pub returns-else-eq-clause-others : goal.returns-else-eq-clause-others
-returns-else-eq-clause-others g c = λ xs r. removed_others xs (removed c.set_next.ensures.sets c.set_prev.ensures.sets c.prev-before.ensures c.next-after.ensures) r
+returns-else-eq-clause-others g c = λ xs r.
+    removed_others xs (removed c.set_next.ensures.sets c.set_prev.ensures.sets c.prev-before.ensures
+    c.next-after.ensures) r

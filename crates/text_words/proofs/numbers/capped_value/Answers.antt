@@ -13,7 +13,16 @@ loop-d-preserved c =
     let sum = c.saturating_add.ensures in
     let product = c.saturating_mul.ensures in
     record {
-      told = capped_more c.args.most c.loop-d.n (value (take i ds)) (get_or ds i 0 - 48) c.min-n.result c.saturating_add.result c.saturating_mul.result c.ranges.most.fits c.loop-d.invariant.told product sum least
+      told = capped_more c.args.most c.loop-d.n (value (take i ds)) (get_or ds i 0 - 48) c.min-n.result
+          c.saturating_add.result c.saturating_mul.result c.ranges.most.fits c.loop-d.invariant.told product sum least
           ∙ ap (min c.args.most) (sym (value_more ds i here));
-      small = omega (arith, pow_more 10 i, digit_within ds i c.requires here, c.loop-d.invariant.small, least, sum, product);
+      small = omega (
+        arith,
+        pow_more 10 i,
+        digit_within ds i c.requires here,
+        c.loop-d.invariant.small,
+        least,
+        sum,
+        product,
+      );
     }

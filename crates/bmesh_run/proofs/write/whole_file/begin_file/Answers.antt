@@ -3,7 +3,7 @@ use Rattle.std.specs.Option.{option_map}
 use Rattle.byte_sink.specs.Wrote.{with_after}
 use Rattle.obj_text.specs.Written.{text}
 use Rattle.worlds.specs.Files.{put}
-use Rattle.worlds.specs.Told.{Told, asked}
+use Rattle.worlds.specs.Told.{Told, with_start}
 use Rattle.worlds.specs.declared.start.Purpose.TheVariants.{Writing}
 use Rattle.bmesh_run.proofs.Writing.{file_written, made_begun, started_begun, gains_start, makes_all}
 use Rattle.bmesh_run.proofs.write.whole_file.begin_file.Goals as goal
@@ -49,7 +49,7 @@ returns-clause-ok g c =
     (law.others_is_rest after before c.in_ok-write.ensures.others)
     (sym (law.sink_is_begun after).0 ∙ c.in_ok-write.ensures.ok
     ∙ ap (λ (o : Option (List ℕ)). with_after o bytes) (law.sink_is_begun before).0)
-    ∙ ap (λ (n : ℕ). record (asked old name Writing) {
+    ∙ ap (λ (n : ℕ). record (with_start old name Writing) {
       made = option_map (put name bytes) old.made;
       begun = Some name;
       out_faults = n;

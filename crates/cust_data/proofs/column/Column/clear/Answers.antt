@@ -6,7 +6,8 @@ use Rattle.cust_data.proofs.column.Column.clear.Goals as goal
 
 -- zeros are as wide as the others
 pub invariant_of-self : goal.invariant_of-self
-invariant_of-self g c = holds-set g.row.N c.self.inside.cells.items c.args.place (zeros g.row.N) c.self.invariant (length-replicate g.row.N (pos 0))
+invariant_of-self g c = holds-set g.row.N c.self.inside.cells.items c.args.place (zeros g.row.N) c.self.invariant
+    (length-replicate g.row.N (pos 0))
 
 -- the list of cells is the model's
 pub returns : goal.returns

@@ -14,6 +14,8 @@ returns g c =
     let P = λ (cells : List (List ℤ)). c.args.place < length cells in
     let in_range : c.args.place < length c.self.inside.cells.items = subst P (sym c.self.view_is) c.requires in
     record {
-      cell = get_or_read c.self.inside.cells.items c.args.place c.index.result.now in_range c.index.ensures (zeros g.row.N) ∙ ap (λ (cells : List (List ℤ)). get_or cells c.args.place (zeros g.row.N)) c.self.view_is;
-      wide = wide_read g.row.N c.self.inside.cells.items c.args.place c.index.result.now c.self.invariant in_range c.index.ensures;
+      cell = get_or_read c.self.inside.cells.items c.args.place c.index.result.now in_range c.index.ensures
+          (zeros g.row.N) ∙ ap (λ (cells : List (List ℤ)). get_or cells c.args.place (zeros g.row.N)) c.self.view_is;
+      wide = wide_read g.row.N c.self.inside.cells.items c.args.place c.index.result.now c.self.invariant in_range
+          c.index.ensures;
     }

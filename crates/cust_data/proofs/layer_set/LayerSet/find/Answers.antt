@@ -9,6 +9,8 @@ use Rattle.cust_data.proofs.layer_set.LayerSet.find.Goals as goal
 pub returns : goal.returns
 returns c =
     c.find_column.ensures
-    ∙ (ap (λ (xs : List Filled). position (λ (x : Filled). same_name x.layer.name c.args.name.now) xs) c.deref.ensures.value
-    ∙ (sym (position-map (λ (l : Layer). same_name l.name c.args.name.now) (λ (x : Filled). x.layer) c.self.inside.columns.items)
+    ∙ (ap (λ (xs : List Filled). position (λ (x : Filled). same_name x.layer.name c.args.name.now) xs)
+    c.deref.ensures.value
+    ∙ (sym (position-map (λ (l : Layer). same_name l.name c.args.name.now) (λ (x : Filled). x.layer)
+    c.self.inside.columns.items)
     ∙ ap (λ (t : LayerTable). find_layer t.layers c.args.name.now) c.self.view_is))

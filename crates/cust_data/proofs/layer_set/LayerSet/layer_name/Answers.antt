@@ -7,5 +7,6 @@ use Rattle.cust_data.proofs.layer_set.LayerSet.layer_name.Goals as goal
 -- the column that was read has the layer
 pub returns : goal.returns
 returns c =
-    ap (option_map (λ (l : Layer). l.name)) (layer_said c.self.inside.columns.items c.self.inside.places c.args.k c.index.result.now c.args.self.now c.self.view_is c.requires c.index.ensures)
+    ap (option_map (λ (l : Layer). l.name)) (layer_said c.self.inside.columns.items c.self.inside.places c.args.k
+    c.index.result.now c.args.self.now c.self.view_is c.requires c.index.ensures)
     ∙ ap (λ (x : List ℕ). Some x) (sym c.name.ensures)

@@ -5,4 +5,5 @@ use Rattle.cust_data.proofs.layer_set.LayerSet.layers.Goals as goal
 
 -- the columns make a table
 pub returns-clause-table : goal.returns-clause-table
-returns-clause-table c = subst IsTable c.self.view_is (is_table c.self.inside.columns.items c.self.inside.places c.self.invariant)
+returns-clause-table c = subst IsTable c.self.view_is (is_table c.self.inside.columns.items c.self.inside.places
+    c.self.invariant)

@@ -19,6 +19,7 @@ total_width-requires c =
 -- the columns make the table
 pub returns : goal.returns
 returns c = record {
-  total = c.total_width.ensures ∙ (ap (λ (xs : List Filled). total (layers_of xs)) c.deref.ensures.value ∙ ap (λ (t : LayerTable). total t.layers) c.self.view_is);
+  total = c.total_width.ensures ∙ (ap (λ (xs : List Filled). total (layers_of xs)) c.deref.ensures.value
+      ∙ ap (λ (t : LayerTable). total t.layers) c.self.view_is);
   table = subst IsTable c.self.view_is (is_table c.self.inside.columns.items c.self.inside.places c.self.invariant);
 }

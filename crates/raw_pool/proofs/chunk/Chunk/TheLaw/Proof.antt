@@ -14,5 +14,7 @@ use Rattle.raw_pool.proofs.Sharing.{chunk_laws, lends_chunk}
 
 pub shares : (R : RattleType) (L : Laws R) → statement R L
 shares R L =
-    of_Lends (C.struct R) (C.the_codes R.Denot R.coded) (C.the_heap R) (C.the_lent R) (λ d _. chunk_laws R L.shr_laws d.start d.places) (copy_shared RawPtr-field RawPtr-copy, tt)
-    (λ M 𝓤 𝓛 d _. lends_chunk 𝓛 (C.the_row R).lives R L (Incl-trans (meet_⊑_left (R.lives ++ []) _) (meet_⊑_left R.lives [])) d.start d.places)
+    of_Lends (C.struct R) (C.the_codes R.Denot R.coded) (C.the_heap R) (C.the_lent R)
+    (λ d _. chunk_laws R L.shr_laws d.start d.places) (copy_shared RawPtr-field RawPtr-copy, tt)
+    (λ M 𝓤 𝓛 d _. lends_chunk 𝓛 (C.the_row R).lives R L (Incl-trans (meet_⊑_left (R.lives ++ []) _)
+    (meet_⊑_left R.lives [])) d.start d.places)

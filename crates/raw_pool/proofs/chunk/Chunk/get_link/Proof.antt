@@ -14,38 +14,55 @@ get_link_spec 𝓤 𝓛 𝓜 𝓡 wired T L =
     let H = 𝓛.H in let C = (tables 𝓤 H 𝓜 𝓡 𝓡.env).C in let Λ = (tables 𝓤 H 𝓜 𝓡 𝓡.env).Λ in
     let T₀ = f.ended T in let c = f.clauses T 𝓛 𝓜.mem 𝓡.returns in
     let fn : Fn = inst_fn (args E) code.function in
-    let stays : Stays T₀.signature.params T₀.kept = (stay_dropped (RefOf (0 ∷ []) tt (plain (λ _. Row E)) (λ _. tt)) yes, (stay_dropped (plain (λ _. usize)) yes, tt)) in
-    proved_at 𝓛 T₀ stays c 𝓜 𝓡 (Goes-dropped 𝓛 2 (RefOf (0 ∷ []) tt (plain (λ _. Row E)) (λ _. tt)) yes (λ κs x f. refl), (Goes-dropped 𝓛 2 (plain (λ _. usize)) yes (λ κs x f. refl), tt))
+    let stays : Stays T₀.signature.params T₀.kept = (
+      stay_dropped (RefOf (0 ∷ []) tt (plain (λ _. Row E)) (λ _. tt)) yes,
+      (stay_dropped (plain (λ _. usize)) yes, tt),
+    ) in
+    proved_at 𝓛 T₀ stays c 𝓜 𝓡 (
+      Goes-dropped 𝓛 2 (RefOf (0 ∷ []) tt (plain (λ _. Row E)) (λ _. tt)) yes
+          (λ κs x f. refl),
+      (Goes-dropped 𝓛 2 (plain (λ _. usize)) yes (λ κs x f. refl), tt),
+    )
     (#self (args E)) fn (code.unfolded 𝓤 H 𝓜 𝓡 wired (T, tt)) (λ z are.
     let Post : Val → SProp 𝓤 = (walk_of 𝓛 T₀ stays c).post z in
     let κ = z.0.0.0 in let κ₁ = z.0.0.1.0 in let q = z.0.1.0 in let q₁ = z.0.1.1.0 in
-    let rb : ℕ = z.0.3.0.ref_ptr.0 in let ro : ℕ = z.0.3.0.ref_ptr.1 in let d : el_chunk E = z.0.3.0.now in let i : ℕ = z.0.3.1.0 in
+    let rb : ℕ = z.0.3.0.ref_ptr.0 in let ro : ℕ = z.0.3.0.ref_ptr.1 in let d : el_chunk E = z.0.3.0.now in let i : ℕ =
+    z.0.3.1.0 in
     let fits = are.1.0.1 in
     let Asked : Type 0 = IsLinked d.places i in
-    qed 𝓛 (((‵ (flft κ q) ⊛ ‵ (flft κ₁ q₁) ⊛ ‵ ftrue) ⊛ ‵ (owns (types_at T₀.signature.params z.0.0) z.0.3 z.0.4)) ∷ (raw (fact 𝓤 (κ₁ ⊑ T.lives)) ⊛ raw (fact 𝓤 Asked)) ∷ []) ∵
+    qed 𝓛 (((‵ (flft κ q) ⊛ ‵ (flft κ₁ q₁) ⊛ ‵ ftrue) ⊛ ‵ (owns (types_at T₀.signature.params z.0.0) z.0.3 z.0.4))
+    ∷ (raw (fact 𝓤 (κ₁ ⊑ T.lives)) ⊛ raw (fact 𝓤 Asked)) ∷ []) ∵
     move ! (1 ∷ []) $ split ! $ drop ! $ heard ! Asked (λ asked.
     let n : ℕ = asked.0 in let within = linked_below d.places i n asked.1 in
     split ! $ split ! $ move ! (2 ∷ []) $ fsplit ! $ fsplit ! $ drop ! $
-    use1 𝓛 (‵ (hidden_shr RawPtr κ d.start rb (ro + 0)) ⊛ ‵ (chunk_lends (R E) d.start d.places κ)) (chunk_seen E 𝓛 κ d rb ro) $ split ! $ move ! (1 ∷ []) $
-    in_a_block ! d.start (λ p. chunk_lends (R E) p d.places κ) (id⊢ 𝓤 (never 𝓤)) (λ b o e. fsplit ! $ fpick ! (λ ok. drop ! $
-    let h : Opened E d (chunk_val d.start ∷ []) b o = record { at = e; word = ap (λ (p : Ptr). chunk_val p ∷ []) e; wide = ok.0; small = ok.1 } in let vs = chunk_val d.start ∷ [] in
+    use1 𝓛 (‵ (hidden_shr RawPtr κ d.start rb (ro + 0)) ⊛ ‵ (chunk_lends (R E) d.start d.places κ))
+    (chunk_seen E 𝓛 κ d rb ro) $ split ! $ move ! (1 ∷ []) $
+    in_a_block ! d.start (λ p. chunk_lends (R E) p d.places κ) (id⊢ 𝓤 (never 𝓤))
+    (λ b o e. fsplit ! $ fpick ! (λ ok. drop ! $
+    let h : Opened E d (chunk_val d.start ∷ []) b o =
+    record { at = e; word = ap (λ (p : Ptr). chunk_val p ∷ []) e; wide = ok.0; small = ok.1 } in let vs =
+    chunk_val d.start ∷ [] in
     let far = offset_fits E d vs b o i h within in let at = i * bytes E + o in
     use1 𝓛 (‵ (place_lends (R E) b at (Link n) κ)) (place_seen E 𝓛 b κ d.places i o (Link n) within asked.1) $ hide ! $
     -- [a `&` to the link; a `&` to the pointer; the rest; the token; the other token]
     keep ! (1 ∷ 3 ∷ 4 ∷ 0 ∷ []) $
     regoal ! (λ (us : List Val). prop (WpFn 𝓤 H C Λ fn us Post)) (λ j. are.0.0 j ++ (are.1.0.0 j ++ [])) refl $
-    enter ! C Λ fn (vptr rb ro ∷ vint w64 i ∷ []) Post $ alloc_all ! (λ l. pass_all ! refl ((tt, tt), ((tt, record { fits = fits }), tt)) $
+    enter ! C Λ fn (vptr rb ro ∷ vint w64 i ∷ []) Post $ alloc_all !
+    (λ l. pass_all ! refl ((tt, tt), ((tt, record { fits = fits }), tt)) $
     let En : Env 𝓤 H = env fn.locals l in
     first ! $ blocks ! $ pointer_in ! tt d.start b o e rb (ro + 0) (λ q'.
     sets ! (of_opd ! (load ! (through ! refl (fld ! refl (stop !))) (look ! 0 refl))) refl (tt, tt) $
     pointer_out ! tt d.start b o e rb (ro + 0) $
-    sets ! (bin ! (get ! refl) (size_lit ! (record { fits = size_fits E d vs b o i h within })) (record { fits = far })) refl (tt, record { fits = far }) $
+    sets ! (bin ! (get ! refl) (size_lit ! (record { fits = size_fits E d vs b o i h within })) (record { fits = far }))
+    refl (tt, record { fits = far }) $
     sets ! (bin ! (get ! refl) (get ! refl) tt) refl (tt, tt) $ sets ! (of_opd ! (get ! refl)) refl (tt, tt) $
     -- [the token; the other token; a `&` to the link]
     move ! (2 ∷ 0 ∷ []) $ link_in ! tt n b at (λ q'' small.
     sets_last ! (of_opd ! (load ! (through ! refl (stop !)) (look ! 0 refl))) refl (tt, record { fits = small }) $
-    exec ! C Λ En (after 1 fn.body) (at_ret En Post) $ sets ! (of_opd ! (get ! refl)) refl (tt, record { fits = small }) $ link_out ! tt n b at small $
+    exec ! C Λ En (after 1 fn.body) (at_ret En Post) $ sets ! (of_opd ! (get ! refl)) refl (tt, record { fits = small })
+    $ link_out ! tt n b at small $
     returns ! (look_at ! 0 refl) $ free_all ! refl $
     -- [the token; the other token]
     suffices ! _ (ends_at 𝓛 T₀ stays c z (vint w32 n) n (tt, (tt, tt)) (tt, (tt, tt))) $ says ! asked.1 $
-    join ! $ owned ! u32 _ (uint_Makes 𝓛 w32) n _ (refl, small) $ nothing ! $ nothing ! $ fjoin ! $ nothing ! $ fjoin ! $ keep ! (2 ∷ 0 ∷ 1 ∷ []) $ done !)))))))
+    join ! $ owned ! u32 _ (uint_Makes 𝓛 w32) n _ (refl, small) $ nothing ! $ nothing ! $ fjoin ! $ nothing ! $ fjoin !
+    $ keep ! (2 ∷ 0 ∷ 1 ∷ []) $ done !)))))))

@@ -2,4 +2,5 @@ use Rattle.raw_pool.proofs.Bits.{tag_set}
 use Rattle.raw_pool.proofs.tags.Tags.set.Goals as goal
 
 pub returns-clause-tags : goal.returns-clause-tags
-returns-clause-tags c = tag_set c.args.self.now.words.items c.args.at c.index_mut-word.result.now c.requires c.index_mut-word.ensures.value
+returns-clause-tags c = tag_set c.args.self.now.words.items c.args.at c.index_mut-word.result.now c.requires
+    c.index_mut-word.ensures.value
