@@ -300,7 +300,8 @@ AreRight-split_face_between c f i j s =
                   let same : new.1.0 ≡ face_rec c f = let known = at-face_rec c f s.there in let stood = new.1.1 in
                   let at_f = ap (at c.faces) new.0 in cc in
                   subst (IsFaceRight d) (sym (new.1.2
-                  ∙ ap (λ (y : FaceRec). let z : FaceRec = record y { corners = outer_part (next_edge c) i j y.corners } in
+                  ∙ ap (λ (y : FaceRec). let z : FaceRec =
+                  record y { corners = outer_part (next_edge c) i j y.corners } in
                   z) same)) outer
             ]
             | inr new ↦ subst (IsFaceRight d) (sym new.1) inner

@@ -113,7 +113,8 @@ step c f v w e there = elim (cases_Bool (is_shared c f e)) [
         layers = refl;
         materials = refl;
         faces = refl;
-        made = at-update c.edges e.0 e.0 (with_ends (renamed_vert v w)) ∙ cond-true (eqb e.0 e.0) _ _ (eq-eqb e.0 e.0 refl)
+        made = at-update c.edges e.0 e.0 (with_ends (renamed_vert v w))
+            ∙ cond-true (eqb e.0 e.0) _ _ (eq-eqb e.0 e.0 refl)
             ∙ ap (option_map (with_ends (renamed_vert v w))) (at-edge_rec c e there);
         kept = λ m y is given. at-update_other c.edges e.0 m (with_ends (renamed_vert v w))
             (λ same. true≢false (sym (given (sym same)) ∙ alone)) ∙ is;

@@ -273,8 +273,10 @@ fn push_face<S: Shape>(
     requires room { 0 < faces.old.room }
     requires fits { length faces.old.table + 1 < 2 ^ 32 }
     requires corner_room { length (corners_of (face_left gone.now (S.complex shape.now) f.0)) ≤ faces.old.corner_room }
-    requires corners_fit { corner_sum faces.old.table + length (corners_of (face_left gone.now (S.complex shape.now) f.0)) < 2 ^ 32 }
-    ensures table { OnOk result (faces.new.table ≡ faces.old.table ++ face_left gone.now (S.complex shape.now) f.0 ∷ []) }
+    requires corners_fit { corner_sum faces.old.table + length
+        (corners_of (face_left gone.now (S.complex shape.now) f.0)) < 2 ^ 32 }
+    ensures table { OnOk result (faces.new.table
+        ≡ faces.old.table ++ face_left gone.now (S.complex shape.now) f.0 ∷ []) }
     ensures closed { OnOk result (faces.new.open ≡ []) }
     ensures layers { faces.new.layers ≡ faces.old.layers }
     ensures corner_layers { faces.new.corner_layers ≡ faces.old.corner_layers }
@@ -309,8 +311,10 @@ fn read_corners<S: Shape>(
 ) -> Result<(), NoMemory>
     requires linked { IsLinked (S.complex shape.now) }
     requires there { IsThere (S.complex shape.now).faces f.0 }
-    ensures sides { OnOk result (sides.new.items ≡ map (λ k. (k.vert, k.edge)) (corners_of (at (S.complex shape.now).faces f.0))) }
-    ensures numbers { OnOk result (numbers.new.items ≡ flat_map (λ k. k.vals) (corners_of (at (S.complex shape.now).faces f.0))) }
+    ensures sides { OnOk result (sides.new.items
+        ≡ map (λ k. (k.vert, k.edge)) (corners_of (at (S.complex shape.now).faces f.0))) }
+    ensures numbers { OnOk result (numbers.new.items
+        ≡ flat_map (λ k. k.vals) (corners_of (at (S.complex shape.now).faces f.0))) }
 {
     let count = shape.corner_count(f) as usize;
     sides.resize(count, (VertName(0), EdgeName(0)))?;
@@ -344,7 +348,8 @@ fn push_corners<S: Shape>(
     requires closed { faces.old.open ≡ [] }
     requires corner_layers { faces.old.corner_layers ≡ (S.complex shape.now).layers.corners }
     requires corner_room { length (corners_of (at (S.complex shape.now).faces f.0)) ≤ faces.old.corner_room }
-    requires corners_fit { corner_sum faces.old.table + length (corners_of (at (S.complex shape.now).faces f.0)) < 2 ^ 32 }
+    requires corners_fit { corner_sum faces.old.table + length (corners_of (at (S.complex shape.now).faces f.0))
+        < 2 ^ 32 }
     ensures faces { faces.new ≡ record faces.old {
       «open» = corners_of (at (S.complex shape.now).faces f.0);
       corner_room = faces.old.corner_room - length (corners_of (at (S.complex shape.now).faces f.0));

@@ -2,6 +2,7 @@ ghost use Rattle.std.specs.Prelude.{◌≡◌, ◌≢◌, ◌+◌, ◌<◌, ◌�
 ghost use Rattle.std.specs.List.{All, list_all};
 ghost use Rattle.mesh_model.specs.Table.{IsThere};
 ghost use Rattle.mesh_model.specs.Complex.{no_complex, new_model, corner_sum};
+ghost use Rattle.mesh_model.specs.Incidence.{edge_joining};
 ghost use Rattle.mesh_model.specs.Making.{with_vert, vert_at_point, edge_between, with_face_told};
 ghost use Rattle.mesh_model.specs.Valid.{is_on_grid, is_in_range, is_material, is_smooth, are_distinct, IsLinked};
 ghost use Rattle.mesh_model.specs.Valid.{IsValid, IsSimple};
@@ -53,7 +54,8 @@ impl Model for Draft {
 
     ghost view = { λ d. complex_of d.verts d.edges d.faces d.materials d.libraries };
 
-    ghost invariant = { λ d. IsDraft (complex_of d.verts d.edges d.faces d.materials d.libraries) d.edges.used d.faces.open d.index };
+    ghost invariant = { λ d. IsDraft (complex_of d.verts d.edges d.faces d.materials d.libraries) d.edges.used
+        d.faces.open d.index };
 }
 
 impl Draft {
@@ -133,6 +135,17 @@ impl Draft {
         Ok(name)
     }
 
+    /// The least-named edge that joins two vertices, or `None` exactly where none does, in constant time as a rule. The
+    /// first search in a copy takes time in proportion to its edges.
+    pub fn find_edge(&mut self, a: VertName, b: VertName) -> Result<Option<EdgeName>, NoMemory>
+        ensures found { IfOk result (λ e. e ≡ edge_joining self.old.edges a b) }
+        ensures same { self.new ≡ self.old }
+    {
+        self.index.catch_up(&self.edges, 0)?;
+        let found = self.index.find(&self.edges, a, b);
+        Ok(found)
+    }
+
     /// Adds the face on a polygon of vertices, of a material, counted from 1, and a smoothing group, 0 being none. Each
     /// side takes the edge that `edge_between` gives, and the missing ones are made in order. Values that aren't told
     /// are 0, and what is told of a layer that isn't there is dropped. Takes time in proportion to the corners, as a
@@ -176,7 +189,8 @@ impl Draft {
     /// The position of a name among the materials, counted from 1, appended if it is new.
     pub fn material_number(&mut self, name: &[u8]) -> Result<i64, NoMemory>
         ensures number { IfOk result (λ n. n ≡ pos ((with_name self.old.materials name.now).1 + 1)) }
-        ensures ok { OnOk result (self.new ≡ record self.old { materials = (with_name self.old.materials name.now).0 }) }
+        ensures ok { OnOk result (self.new
+            ≡ record self.old { materials = (with_name self.old.materials name.now).0 }) }
         ensures err { OnErr result (self.new ≡ self.old) }
         ensures valid { IsValid self.old → IsValid self.new }
         ensures simple { IsSimple self.old → IsSimple self.new }
@@ -187,7 +201,8 @@ impl Draft {
 
     /// Appends a library of materials if it is new.
     pub fn add_library(&mut self, name: &[u8]) -> Result<(), NoMemory>
-        ensures ok { OnOk result (self.new ≡ record self.old { libraries = (with_name self.old.libraries name.now).0 }) }
+        ensures ok { OnOk result (self.new
+            ≡ record self.old { libraries = (with_name self.old.libraries name.now).0 }) }
         ensures err { OnErr result (self.new ≡ self.old) }
         ensures valid { IsValid self.old → IsValid self.new }
         ensures simple { IsSimple self.old → IsSimple self.new }

@@ -72,7 +72,8 @@ pub(crate) fn polygon_in(
     ensures told { (edges.new.table, faces.new.open)
         ≡ corners_in edges.old.layers faces.old.corner_layers edges.old.table (turned corners.now) }
     ensures layers { edges.new.layers ≡ edges.old.layers }
-    ensures used { (e : EdgeName) → is_in edges.new.used e.0 ≡ (is_in edges.old.used e.0 || list_any (is_along e) faces.new.open) }
+    ensures used { (e : EdgeName) → is_in edges.new.used e.0
+        ≡ (is_in edges.old.used e.0 || list_any (is_along e) faces.new.open) }
     ensures faces { faces.new ≡ record faces.old { «open» = faces.new.open; corner_room = faces.new.corner_room } }
     ensures wide { All (λ k. length k.vals ≡ total faces.old.corner_layers) faces.new.open }
     ensures knows { Knows index.new edges.new.table }
@@ -113,7 +114,8 @@ fn side_in(
       } ∷ [];
       corner_room = faces.old.corner_room - 1;
     } }
-    ensures wide { length (row_given ((uv_layer, corner.now.uv) ∷ []) faces.old.corner_layers) ≡ total faces.old.corner_layers }
+    ensures wide { length (row_given ((uv_layer, corner.now.uv) ∷ []) faces.old.corner_layers)
+        ≡ total faces.old.corner_layers }
     ensures room { edges.old.room ≤ edges.new.room + 1 }
     ensures knows { Knows index.new edges.new.table }
     ensures known { index.new.known ≡ length edges.new.table }

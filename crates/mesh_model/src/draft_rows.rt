@@ -121,7 +121,8 @@ fn push_corner_numbers(row: &mut RowBuffer, layers: &LayerRows, k: usize, uv: &[
 /// The row of a face of a material and a smoothing group.
 pub(crate) fn face_row(layers: &LayerRows, material: i64, smooth: i64) -> RowBuffer
     requires { AreLayers layers.now.layers }
-    ensures given { result ≡ row_given ((material_layer, material ∷ []) ∷ (smooth_layer, smooth ∷ []) ∷ []) layers.now.layers }
+    ensures given { result ≡ row_given ((material_layer, material ∷ []) ∷ (smooth_layer, smooth ∷ []) ∷ [])
+        layers.now.layers }
     ensures wide { length result ≡ total layers.now.layers }
 {
     let mut row = RowBuffer::new();
@@ -151,7 +152,8 @@ fn push_face_numbers(row: &mut RowBuffer, layers: &LayerRows, k: usize, material
 // Whether a layer has this name, width and rule.
 fn is_layer(layers: &LayerRows, k: usize, name: &[u8], width: u8, rule: Rule) -> bool
     requires { k < length layers.now.layers }
-    ensures { option_map (same_layer (record { name = name.now; width = width; rule = rule })) (slice_get layers.now.layers k)
+    ensures { option_map (same_layer (record { name = name.now; width = width; rule = rule }))
+        (slice_get layers.now.layers k)
         ≡ Some result }
 {
     layers.layer_name(k) == name && layers.layer_width(k) == width && layers.layer_rule(k) == rule

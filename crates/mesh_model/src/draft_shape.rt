@@ -28,15 +28,15 @@ impl Shape for Draft {
     ghost complex = { λ d. d };
 
     fn vert_from(&self, least: u32) -> Option<VertName> {
-        self.verts.first_from(least).map(|n| VertName(n))
+        self.verts.first_from(least).map(VertName)
     }
 
     fn edge_from(&self, least: u32) -> Option<EdgeName> {
-        self.edges.first_from(least).map(|n| EdgeName(n))
+        self.edges.first_from(least).map(EdgeName)
     }
 
     fn face_from(&self, least: u32) -> Option<FaceName> {
-        self.faces.first_from(least).map(|n| FaceName(n))
+        self.faces.first_from(least).map(FaceName)
     }
 
     fn has(&self, x: Elem) -> bool {

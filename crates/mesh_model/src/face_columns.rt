@@ -50,7 +50,8 @@ impl Model for FaceColumns {
       room = length c.ends.items - c.count;
     } };
 
-    ghost invariant = { λ c. AreFaceColumns c.ends.items c.sides.items c.corner_values.rows c.values.rows c.count c.corner_count };
+    ghost invariant = { λ c. AreFaceColumns c.ends.items c.sides.items c.corner_values.rows c.values.rows c.count
+        c.corner_count };
 }
 
 impl FaceColumns {

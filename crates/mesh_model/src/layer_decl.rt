@@ -4,7 +4,7 @@ use sequence::Text;
 
 /// A layer as it is declared: for which kind of element, its name, how many numbers each element has in
 /// it, from 1 to 4, and how they are mixed.
-#[derive(Debug, Drop)]
+#[derive(Clone, Debug, Drop)]
 pub struct LayerDecl {
     pub kind: Kind,
     pub name: Text,

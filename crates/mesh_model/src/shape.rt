@@ -64,7 +64,8 @@ pub trait Shape {
     /// first corner: to read a whole face take `corners`.
     fn corner(&self, f: FaceName, i: u32) -> (VertName, EdgeName)
         requires { i < length (corners_of (at (complex self.now).faces f.0)) }
-        ensures { option_map (λ k. (k.vert, k.edge)) (slice_get (corners_of (at (complex self.now).faces f.0)) i) ≡ Some result };
+        ensures { option_map (λ k. (k.vert, k.edge)) (slice_get (corners_of (at (complex self.now).faces f.0)) i)
+            ≡ Some result };
 
     /// The vertices and the edges of a face's corners in order, in one walk round it.
     fn corners(&self, f: FaceName, into: &mut [(VertName, EdgeName)])
@@ -75,7 +76,8 @@ pub trait Shape {
     /// The values of a face's corners in order, one row behind another, in one walk round it.
     fn corner_rows(&self, f: FaceName, into: &mut [i64])
         requires there { IsThere (complex self.now).faces f.0 }
-        requires room { length into.old ≡ length (corners_of (at (complex self.now).faces f.0)) * width (complex self.now) Kind.Corners }
+        requires room { length into.old ≡ length (corners_of (at (complex self.now).faces f.0)) * width
+            (complex self.now) Kind.Corners }
         ensures { into.new ≡ flat_map (λ k. k.vals) (corners_of (at (complex self.now).faces f.0)) };
 
     /// A number of a vertex's row of values.
@@ -94,7 +96,8 @@ pub trait Shape {
     fn corner_value(&self, f: FaceName, i: u32, k: usize) -> i64
         requires there { i < length (corners_of (at (complex self.now).faces f.0)) }
         requires within { k < width (complex self.now) Kind.Corners }
-        ensures { option_map (λ r. slice_get r.vals k) (slice_get (corners_of (at (complex self.now).faces f.0)) i) ≡ Some (Some result) };
+        ensures { option_map (λ r. slice_get r.vals k) (slice_get (corners_of (at (complex self.now).faces f.0)) i)
+            ≡ Some (Some result) };
 
     /// A number of a face's row of values.
     fn face_value(&self, f: FaceName, k: usize) -> i64

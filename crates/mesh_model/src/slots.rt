@@ -27,14 +27,14 @@ pub enum Context {
 }
 
 /// An operator with its arguments.
-#[derive(Debug, Drop)]
+#[derive(Clone, Debug, Drop)]
 pub enum Op {
     /// Deletes elements.
     Delete { geom: Expr, context: Context },
 }
 
 /// What a command does.
-#[derive(Debug, Drop)]
+#[derive(Clone, Debug, Drop)]
 pub enum What {
     /// Runs an operator.
     Run(Op),
@@ -42,7 +42,7 @@ pub enum What {
 
 /// A command: the number of its line in the script, counted from 1, the name that its slots are bound to,
 /// if it has one, and what it does.
-#[derive(Debug, Drop)]
+#[derive(Clone, Debug, Drop)]
 pub struct Command {
     pub line: u32,
     pub bind: Option<Text>,

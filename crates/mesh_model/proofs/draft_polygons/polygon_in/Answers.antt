@@ -49,7 +49,8 @@ loop-i-preserved c =
           beside made known.told);
       layers = c.side_in.ensures.layers ∙ known.layers;
       used = λ e. (rw known.layers at (c.side_in.ensures.used e))
-          ∙ ap (λ (b : Bool). b || eqb side.1.0 e.0) (known.used e) ∙ rw opened (used-more _ c.loop-i.faces.open corner e);
+          ∙ ap (λ (b : Bool). b || eqb side.1.0 e.0) (known.used e)
+          ∙ rw opened (used-more _ c.loop-i.faces.open corner e);
       faces = open-twice c.side_in.new.faces c.loop-i.faces c.args.faces.now _ _ c.side_in.ensures.faces known.faces;
       wide = rw opened (All-push (λ (x : CornerRec). length x.vals ≡ total corner_layers)
           c.loop-i.faces.open corner known.wide (rw same at c.side_in.ensures.wide));
