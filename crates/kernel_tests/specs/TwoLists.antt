@@ -14,5 +14,7 @@ pub one_number : (a b : ℕ) → eqb a b ≡ true → a ≡ b
 one_number = eqb-true
 
 -- there are no more keys than places
-pub limited_by_length : (next prev : List ℕ) (xs : List ℕ) → AllDistinct xs → AllKeys (links_of next prev) xs → length xs ≤ length next
-limited_by_length next prev xs d k = numbers_limited (length next) xs d (λ j h. ltb-true j (length next) (key_of (links_of next prev) xs j k h))
+pub limited_by_length : (next prev : List ℕ) (xs : List ℕ) → AllDistinct xs → AllKeys (links_of next prev) xs
+    → length xs ≤ length next
+limited_by_length next prev xs d k = numbers_limited (length next) xs d
+    (λ j h. ltb-true j (length next) (key_of (links_of next prev) xs j k h))

@@ -4,6 +4,14 @@
 #![tactic(auto)]
 
 #[cfg(test)]
+mod confirm;
+#[cfg(test)]
+mod cycles;
+#[cfg(test)]
+mod named;
+#[cfg(test)]
 mod pools;
 #[cfg(test)]
 mod rings;
+#[cfg(test)]
+mod stores;

@@ -1,4 +1,5 @@
 //! A pool's calls over whole words and chunks, a million slots, and values that are dropped.
+use crate::confirm::confirm;
 use raw_pool::{NoMemory, Pool, Slot};
 use std::alloc::Global;
 use std::rc::Rc;
@@ -14,21 +15,21 @@ struct Corner {
 #[test]
 fn five_values_and_a_copy(rt: HostRuntime) -> Result<(), Fail> {
     let mut pool: Pool<i64, 4> = Pool::new(rt.alloc());
-    assert_eq!(rt; pool.first(), None);
-    assert!(rt; pool.reserve(5).is_ok());
-    assert!(rt; pool.spare() >= 5);
+    confirm(&rt, "no value yet", pool.first().is_none());
+    confirm(&rt, "room for five", pool.reserve(5).is_ok());
+    confirm(&rt, "places for five", pool.spare() >= 5);
     let a = pool.put(10);
     let b = pool.put(20);
     let c = pool.put(30);
     let d = pool.put(40);
     let e = pool.put(50);
 
-    assert!(rt; pool.contains(b));
-    assert_eq!(rt; pool.take(b), 20);
-    assert!(rt; !pool.contains(b));
-    assert!(rt; pool.spare() >= 1);
+    confirm(&rt, "the second is there", pool.contains(b));
+    confirm(&rt, "the second comes out", pool.take(b) == 20);
+    confirm(&rt, "it is gone", !pool.contains(b));
+    confirm(&rt, "its place is vacant", pool.spare() >= 1);
     let f = pool.put(60);
-    assert_eq!(rt; f, b);
+    confirm(&rt, "the place is used again", f == b);
 
     // The five slots differ, and the walk gives each once, rising.
     let mut walked = Vec::new(rt.alloc());
@@ -37,37 +38,41 @@ fn five_values_and_a_copy(rt: HostRuntime) -> Result<(), Fail> {
         let Some(s) = at else {
             break;
         };
-        assert!(rt; pool.contains(s));
+        confirm(&rt, "walked over a live slot", pool.contains(s));
         walked.push(s.0)?;
         at = pool.after(s);
     }
-    assert_eq!(rt; at, None);
-    assert_eq!(rt; walked.len(), 5);
+    confirm(&rt, "the walk has an end", at.is_none());
+    confirm(&rt, "five in all", walked.len() == 5);
     for k in 1..walked.len() {
-        assert!(rt; walked[k - 1] < walked[k]);
+        confirm(&rt, "slots rise", walked[k - 1] < walked[k]);
     }
     for (s, value) in [(a, 10), (f, 60), (c, 30), (d, 40), (e, 50)] {
-        assert!(rt; walked.contains(&s.0));
-        assert!(rt; pool.contains(s));
-        assert_eq!(rt; *pool.get(s), value);
+        confirm(&rt, "a slot was walked over", walked.contains(&s.0));
+        confirm(&rt, "a slot is live", pool.contains(s));
+        confirm(&rt, "a slot has its value", *pool.get(s) == value);
     }
 
     let mut twin = pool.copy(rt.alloc())?;
-    assert!(rt; pool.contains(a));
+    confirm(&rt, "the first is there", pool.contains(a));
     *pool.get_mut(a) = 11;
     for s in 0..pool.capacity() {
         let s = Slot(s as u32);
-        assert_eq!(rt; twin.contains(s), pool.contains(s));
+        confirm(
+            &rt,
+            "live in both or neither",
+            twin.contains(s) == pool.contains(s),
+        );
     }
     for (s, value) in [(a, 10), (f, 60), (c, 30), (d, 40), (e, 50)] {
-        assert!(rt; twin.contains(s));
-        assert_eq!(rt; *twin.get(s), value);
+        confirm(&rt, "live in the copy", twin.contains(s));
+        confirm(&rt, "the value in the copy", *twin.get(s) == value);
     }
 
     // The copy's vacant places are its own.
-    assert!(rt; pool.spare() >= 1);
-    assert!(rt; twin.spare() >= 1);
-    assert_eq!(rt; twin.put(70), pool.put(80));
+    confirm(&rt, "a place in the pool", pool.spare() >= 1);
+    confirm(&rt, "a place in the copy", twin.spare() >= 1);
+    confirm(&rt, "the same place in both", twin.put(70) == pool.put(80));
     Ok(())
 }
 
@@ -90,45 +95,53 @@ fn walks_over_whole_words(rt: HostRuntime) -> Result<(), Fail> {
     let alloc = rt.alloc();
     let mut pool: Pool<Corner, 50> = Pool::new(alloc);
     pool.reserve(301)?;
-    assert_eq!(rt; pool.capacity(), 350);
+    confirm(&rt, "whole chunks", pool.capacity() == 350);
     for k in 0..350 {
-        assert!(rt; pool.spare() >= 1);
+        confirm(&rt, "a place for each", pool.spare() >= 1);
         pool.put(Corner {
             vertex: k,
             next: None,
             at: -5,
         });
     }
-    assert_eq!(rt; pool.spare(), 0);
+    confirm(&rt, "all full", pool.spare() == 0);
 
     // What stays lies on both sides of words and chunks.
     let stay: [u32; 7] = [0, 63, 64, 130, 191, 192, 349];
     for k in 0..350 {
         let s = Slot(k);
         if !stay.contains(&k) {
-            assert!(rt; pool.contains(s));
+            confirm(&rt, "it is live", pool.contains(s));
             pool.take(s);
         }
     }
-    assert_eq!(rt; walk(alloc, &pool)?.as_slice(), stay.as_slice());
-    assert_eq!(rt; pool.spare(), 343);
+    confirm(
+        &rt,
+        "what stays",
+        walk(alloc, &pool)?.as_slice() == stay.as_slice(),
+    );
+    confirm(&rt, "what is vacant", pool.spare() == 343);
 
     let s = Slot(191);
-    assert!(rt; pool.contains(s));
+    confirm(&rt, "still live", pool.contains(s));
     let corner = pool.get_mut(s);
     corner.next = Some(7);
-    assert!(rt; pool.contains(s));
+    confirm(&rt, "live after a change", pool.contains(s));
     let corner = pool.get(s);
-    assert_eq!(rt; corner.next, Some(7));
-    assert_eq!(rt; corner.at, -5);
+    confirm(&rt, "the change", corner.next == Some(7));
+    confirm(&rt, "the rest", corner.at == -5);
 
     // There is room already.
-    assert_eq!(rt; pool.capacity(), 350);
+    confirm(&rt, "chunks as before", pool.capacity() == 350);
     pool.reserve(343)?;
-    assert_eq!(rt; pool.capacity(), 350);
+    confirm(&rt, "room already", pool.capacity() == 350);
     pool.reserve(344)?;
-    assert_eq!(rt; pool.capacity(), 400);
-    assert_eq!(rt; walk(alloc, &pool)?.as_slice(), stay.as_slice());
+    confirm(&rt, "one chunk more", pool.capacity() == 400);
+    confirm(
+        &rt,
+        "what stays, after more room",
+        walk(alloc, &pool)?.as_slice() == stay.as_slice(),
+    );
     Ok(())
 }
 
@@ -141,34 +154,42 @@ fn a_million_slots_are_used_again(rt: HostRuntime) -> Result<(), Fail> {
     let capacity = pool.capacity();
     let mut slots = Vec::new(alloc);
     for k in 0..COUNT {
-        assert!(rt; pool.spare() >= 1);
+        confirm(&rt, "a place for each", pool.spare() >= 1);
         slots.push(pool.put(k as i64 * 3))?;
     }
-    assert_eq!(rt; slots.len(), COUNT);
+    confirm(&rt, "all there", slots.len() == COUNT);
     for k in 0..COUNT {
         if k % 2 == 1 {
-            assert!(rt; pool.contains(slots[k]));
-            assert_eq!(rt; pool.take(slots[k]), k as i64 * 3);
+            confirm(&rt, "an odd one is live", pool.contains(slots[k]));
+            confirm(
+                &rt,
+                "its value comes out",
+                pool.take(slots[k]) == k as i64 * 3,
+            );
         }
     }
 
     // The slot that was left last is given first.
     for k in 0..COUNT {
         if k % 2 == 0 {
-            assert!(rt; pool.spare() >= 1);
-            assert_eq!(rt; pool.put(-(k as i64)), slots[COUNT - 1 - k]);
+            confirm(&rt, "a place again", pool.spare() >= 1);
+            confirm(
+                &rt,
+                "the slot left last",
+                pool.put(-(k as i64)) == slots[COUNT - 1 - k],
+            );
         }
     }
-    assert_eq!(rt; pool.capacity(), capacity);
+    confirm(&rt, "no more room", pool.capacity() == capacity);
 
     for k in 0..COUNT {
-        assert!(rt; pool.contains(slots[k]));
+        confirm(&rt, "each is live", pool.contains(slots[k]));
         let expected = if k % 2 == 0 {
             k as i64 * 3
         } else {
             k as i64 - (COUNT as i64 - 1)
         };
-        assert_eq!(rt; *pool.get(slots[k]), expected);
+        confirm(&rt, "each has its value", *pool.get(slots[k]) == expected);
     }
     Ok(())
 }
@@ -181,23 +202,23 @@ fn each_value_is_dropped_once(rt: HostRuntime) -> Result<(), Fail> {
     let mut slots = Vec::new(rt.alloc());
     for _ in 0..7 {
         let value = counted.clone()?;
-        assert!(rt; pool.spare() >= 1);
+        confirm(&rt, "a place for each", pool.spare() >= 1);
         slots.push(pool.put(value))?;
     }
-    assert_eq!(rt; slots.len(), 7);
-    assert_eq!(rt; Rc::strong_count(&counted), 8);
+    confirm(&rt, "seven", slots.len() == 7);
+    confirm(&rt, "eight owners", Rc::strong_count(&counted) == 8);
 
     // Two come out and are dropped here, and the place of one is filled again.
-    assert!(rt; pool.contains(slots[1]));
+    confirm(&rt, "one is live", pool.contains(slots[1]));
     drop(pool.take(slots[1]));
-    assert!(rt; pool.contains(slots[4]));
+    confirm(&rt, "another is live", pool.contains(slots[4]));
     drop(pool.take(slots[4]));
-    assert_eq!(rt; Rc::strong_count(&counted), 6);
+    confirm(&rt, "six owners", Rc::strong_count(&counted) == 6);
     let value = counted.clone()?;
-    assert!(rt; pool.spare() >= 1);
+    confirm(&rt, "a place again", pool.spare() >= 1);
     pool.put(value);
-    assert_eq!(rt; Rc::strong_count(&counted), 7);
+    confirm(&rt, "seven owners", Rc::strong_count(&counted) == 7);
     drop(pool);
-    assert_eq!(rt; Rc::strong_count(&counted), 1);
+    confirm(&rt, "one owner", Rc::strong_count(&counted) == 1);
     Ok(())
 }

@@ -4,6 +4,7 @@ ghost use Rattle.link_ring.specs.Ring.{AllKeys, IsRing, IsInRing};
 
 mod two_lists;
 
+use crate::confirm::confirm;
 use link_ring::{Links, insert_after, reverse, start_ring, swap_member, take_out, walk};
 use std::alloc::{AllocError, Global};
 use std::process::Abort;
@@ -44,9 +45,9 @@ fn walk_alone<L: Links<usize>>(rt: &impl Abort, links: &L)
     requires { IsRing (L.links links.now) (0 ∷ []) }
 {
     let mut items = walk(links, 0);
-    assert_eq!(rt; items.next(), Some(0));
-    assert_eq!(rt; items.next(), None);
-    assert_eq!(rt; items.next(), None);
+    confirm(rt, "its member", items.next() == Some(0));
+    confirm(rt, "no more", items.next().is_none());
+    confirm(rt, "still no more", items.next().is_none());
 }
 
 /// Takes the ring of 0, 2, 1 and 3 apart.
@@ -55,17 +56,17 @@ fn take_apart<L: Links<usize>>(rt: &impl Abort, alloc: Global, links: &mut L) ->
     requires keys { AllKeys (L.links links.old) (0 ∷ 1 ∷ 2 ∷ 3 ∷ 4 ∷ []) }
 {
     let follower = take_out(links, 2);
-    assert_eq!(rt; follower, Some(1));
+    confirm(rt, "the follower of 2", follower == Some(1));
     swap_member(links, 1, 4);
     let ring = members(alloc, links, 0)?;
-    assert_eq!(rt; ring.as_slice(), [0, 4, 3].as_slice());
+    confirm(rt, "0, 4 and 3", ring.as_slice() == [0, 4, 3].as_slice());
     let follower = take_out(links, 4);
-    assert_eq!(rt; follower, Some(3));
+    confirm(rt, "the follower of 4", follower == Some(3));
     let follower = take_out(links, 3);
-    assert_eq!(rt; follower, Some(0));
+    confirm(rt, "the follower of 3", follower == Some(0));
     walk_alone(rt, links);
     let follower = take_out(links, 0);
-    assert_eq!(rt; follower, None);
+    confirm(rt, "no follower", follower.is_none());
     Ok(())
 }
 
@@ -75,10 +76,14 @@ fn edit<L: Links<usize>>(rt: &impl Abort, alloc: Global, links: &mut L) -> Resul
 {
     insert_three(links);
     let ring = members(alloc, links, 0)?;
-    assert_eq!(rt; ring.as_slice(), [0, 3, 1, 2].as_slice());
+    confirm(rt, "in order", ring.as_slice() == [0, 3, 1, 2].as_slice());
     reverse(links, 0);
     let ring = members(alloc, links, 0)?;
-    assert_eq!(rt; ring.as_slice(), [0, 2, 1, 3].as_slice());
+    confirm(
+        rt,
+        "the other way round",
+        ring.as_slice() == [0, 2, 1, 3].as_slice(),
+    );
     take_apart(rt, alloc, links)
 }
 
@@ -100,31 +105,37 @@ fn descending_ring<L: Links<usize>>(links: &mut L, count: usize)
     }
 }
 
+// From 0 on, the keys come with the greatest first.
+fn descends(ring: &[usize]) -> bool {
+    for k in 1..ring.len() {
+        if ring[k] != ring.len() - k {
+            return false;
+        }
+    }
+    ring.first() == Some(&0)
+}
+
+// The keys come with the least first.
+fn ascends(ring: &[usize]) -> bool {
+    for k in 0..ring.len() {
+        if ring[k] != k {
+            return false;
+        }
+    }
+    true
+}
+
 #[test]
 fn walks_a_large_ring(rt: HostRuntime) -> Result<(), Fail> {
     let count = 1_000_000;
     let mut links = TwoLists::new(rt.alloc(), count)?;
     descending_ring(&mut links, count);
-
-    let mut expected = Vec::new(rt.alloc());
-    expected.push(0)?;
-    for k in (1..count).rev() {
-        expected.push(k)?;
-    }
     let ring = members(rt.alloc(), &links, 0)?;
-    assert_eq!(rt; ring.len(), count);
-    assert!(rt;
-        ring.as_slice() == expected.as_slice(),
-        "the greatest first"
-    );
-
+    confirm(&rt, "all", ring.len() == count);
+    confirm(&rt, "the greatest first", descends(ring.as_slice()));
     reverse(&mut links, 0);
-    let mut expected = Vec::new(rt.alloc());
-    for k in 0..count {
-        expected.push(k)?;
-    }
     let ring = members(rt.alloc(), &links, 0)?;
-    assert_eq!(rt; ring.len(), count);
-    assert!(rt; ring.as_slice() == expected.as_slice(), "the least first");
+    confirm(&rt, "all", ring.len() == count);
+    confirm(&rt, "the least first", ascends(ring.as_slice()));
     Ok(())
 }

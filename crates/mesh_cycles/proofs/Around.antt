@@ -59,8 +59,10 @@ module _ (st : Stored) (cycles : AreCycles st) where
       let slot : a.edge.0 ≡ b.edge.0 = ap (λ (s : Slot). s.0) e in
       let P = λ (s : ℕ). option_map (end_on b.side) (at st.edges.cells s) ≡ Some v in
       equal_darts a b slot
-      (one_side a.edge.0 (at st.edges.cells a.edge.0) refl v a.side b.side (is_dart st a (member_key a (cycles.disks v) p)).1
-      (is_dart st b (member_key b (cycles.disks v) q)).1 (cycles.disk_ends v a p) (subst P (sym slot) (cycles.disk_ends v b q)))
+      (one_side a.edge.0 (at st.edges.cells a.edge.0) refl v a.side b.side
+      (is_dart st a (member_key a (cycles.disks v) p)).1
+      (is_dart st b (member_key b (cycles.disks v) q)).1 (cycles.disk_ends v a p)
+      (subst P (sym slot) (cycles.disk_ends v b q)))
 
   -- no edge comes twice around a vertex
   pub edges_once : (v : ℕ) → AllDistinct (edges_around st v)
@@ -77,7 +79,8 @@ module _ (st : Stored) (cycles : AreCycles st) where
 
   -- a loop along an edge is live
   pub along_live : (e : ℕ) (l : Slot) → HasMember (loops_along st e) l → IsLive st.loops l.0
-  along_live e l h = live_some (at st.loops l.0) (member_key {m = radial_links st} (record { 0 = l }) (cycles.radials e) (along_radial e l h))
+  along_live e l h = live_some (at st.loops l.0) (member_key {m = radial_links st} (record { 0 = l }) (cycles.radials e)
+      (along_radial e l h))
 
   -- a loop along an edge names it
   pub along_names : (e : ℕ) (l : Slot) → HasMember (loops_along st e) l → edge_of st l ≡ Some e
@@ -85,7 +88,8 @@ module _ (st : Stored) (cycles : AreCycles st) where
 
   -- no loop comes twice along an edge
   pub along_once : (e : ℕ) → AllDistinct (loops_along st e)
-  along_once e = distinct_map (λ (r : Radial). r.0) (radial_of st e) (λ a b p q s. λ i. record { 0 = s i }) (reads_distinct (cycles.radials e))
+  along_once e = distinct_map (λ (r : Radial). r.0) (radial_of st e) (λ a b p q s. λ i. record { 0 = s i })
+      (reads_distinct (cycles.radials e))
 
   -- ---- in a face
 
@@ -98,7 +102,8 @@ module _ (st : Stored) (cycles : AreCycles st) where
 
   -- a loop of a face is live
   pub in_live : (f : ℕ) (l : Slot) → HasMember (loops_in st f) l → IsLive st.loops l.0
-  in_live f l h = live_some (at st.loops l.0) (member_key {m = round_links st} (record { 0 = l }) (cycles.rounds f) (in_round f l h))
+  in_live f l h = live_some (at st.loops l.0) (member_key {m = round_links st} (record { 0 = l }) (cycles.rounds f)
+      (in_round f l h))
 
   -- a loop of a face names it
   pub in_names : (f : ℕ) (l : Slot) → HasMember (loops_in st f) l → face_of st l ≡ Some f
@@ -106,7 +111,8 @@ module _ (st : Stored) (cycles : AreCycles st) where
 
   -- no loop comes twice in a face
   pub in_once : (f : ℕ) → AllDistinct (loops_in st f)
-  in_once f = distinct_map (λ (r : Round). r.0) (round_of st f) (λ a b p q s. λ i. record { 0 = s i }) (reads_distinct (cycles.rounds f))
+  in_once f = distinct_map (λ (r : Round). r.0) (round_of st f) (λ a b p q s. λ i. record { 0 = s i })
+      (reads_distinct (cycles.rounds f))
 
   -- ---- loops at a vertex
 

@@ -1,4 +1,5 @@
--- What stays beside a cycle that an edit changes: the live places, their room and names, and the owners of darts and loops.
+-- What stays beside a cycle that an edit changes: the live places, their room and names, and the owners of darts and
+-- loops.
 --
 -- A lemma on an edit takes its clause `rest` as it stands there.
 use Rattle.std.proofs.Common.{◌≡◌, ◌≢◌, ◌+◌, ◌≤◌, ◌&&◌, ℕ, nat_lt, is_some, List, [], ◌∷◌, Option, Some, None, map, length, refl, sym, ap, ◌∙◌, subst}
@@ -31,7 +32,8 @@ spare_map f (None ∷ xs) = ap (λ (n : ℕ). n + 1) (spare_map f xs)
 spare_map f (Some x ∷ xs) = spare_map f xs
 
 -- pools are the same where f makes them one
-pool_beside : {X : Type 0} (f : X → X) {old new : List (Option X)} → map (option_map f) new ≡ map (option_map f) old → SamePool old new
+pool_beside : {X : Type 0} (f : X → X) {old new : List (Option X)} → map (option_map f) new ≡ map (option_map f) old
+    → SamePool old new
 pool_beside {X} f {old} {new} e = record {
   live = told f (λ (o : Option X). holds o) (λ x. refl) old new e;
   spare = sym (spare_map f new) ∙ ap (λ (xs : List (Option X)). spare_count xs) e ∙ spare_map f old;
@@ -39,16 +41,23 @@ pool_beside {X} f {old} {new} e = record {
 
 -- equal pools
 pool_along : {X : Type 0} {old new : List (Option X)} → new ≡ old → SamePool old new
-pool_along {X} e = record { live = λ s. ap (λ (xs : List (Option X)). holds (at xs s)) e; spare = ap (λ (xs : List (Option X)). spare_count xs) e }
+pool_along {X} e = record {
+  live = λ s. ap (λ (xs : List (Option X)). holds (at xs s)) e;
+  spare = ap (λ (xs : List (Option X)). spare_count xs) e;
+}
 
 -- where a change of one place makes two lists one, f makes them one that covers the change
-one_beside : {X : Type 0} (g f : X → X) → ((x : X) → f (g x) ≡ f x) → (old new : List (Option X)) (s : ℕ) → changed g new s ≡ changed g old s → map (option_map f) new ≡ map (option_map f) old
+one_beside : {X : Type 0} (g f : X → X) → ((x : X) → f (g x) ≡ f x) → (old new : List (Option X)) (s : ℕ)
+    → changed g new s ≡ changed g old s → map (option_map f) new ≡ map (option_map f) old
 one_beside {X} g f covers old new s e =
-    sym (changed_beside g f covers new s) ∙ ap (λ (xs : List (Option X)). map (option_map f) xs) e ∙ changed_beside g f covers old s
+    sym (changed_beside g f covers new s) ∙ ap (λ (xs : List (Option X)). map (option_map f) xs) e
+    ∙ changed_beside g f covers old s
 
 -- what f makes one, g makes one that covers f
-covered_by : {X : Type 0} (f g : X → X) → ((x : X) → g (f x) ≡ g x) → (old new : List (Option X)) → map (option_map f) new ≡ map (option_map f) old → map (option_map g) new ≡ map (option_map g) old
-covered_by {X} f g covers old new e = sym (fused new) ∙ ap (λ (xs : List (Option X)). map (option_map g) xs) e ∙ fused old
+covered_by : {X : Type 0} (f g : X → X) → ((x : X) → g (f x) ≡ g x) → (old new : List (Option X))
+    → map (option_map f) new ≡ map (option_map f) old → map (option_map g) new ≡ map (option_map g) old
+covered_by {X} f g covers old new e = sym (fused new) ∙ ap (λ (xs : List (Option X)). map (option_map g) xs) e
+    ∙ fused old
   where
     fused : (xs : List (Option X)) → map (option_map g) (map (option_map f) xs) ≡ map (option_map g) xs
     fused [] = refl
@@ -71,7 +80,8 @@ pub still_live : {X : Type 0} {old new : List (Option X)} (s : ℕ) → SamePool
 still_live s p live = p.live s ∙ live
 
 -- room stays
-pub still_room : {old new : Stored} {verts edges corners faces : ℕ} {reach : List ℕ} → SamePools old new → HasRoom old verts edges corners faces reach → HasRoom new verts edges corners faces reach
+pub still_room : {old new : Stored} {verts edges corners faces : ℕ} {reach : List ℕ} → SamePools old new
+    → HasRoom old verts edges corners faces reach → HasRoom new verts edges corners faces reach
 still_room {old} {new} {verts} {edges} {corners} {faces} {reach} p r =
     let V = λ (n : ℕ). verts ≤ n in
     let E = λ (n : ℕ). edges ≤ n in
@@ -91,8 +101,10 @@ still_room {old} {new} {verts} {edges} {corners} {faces} {reach} p r =
 -- ---- beside a disk cycle
 
 module _ (old new : Stored) (v : ℕ) (rest : beside_disk new v ≡ beside_disk old v) where
-  pub disk_verts : map (option_map (with_first_edge None)) new.verts.cells ≡ map (option_map (with_first_edge None)) old.verts.cells
-  disk_verts = one_beside (with_first_edge None) (with_first_edge None) (λ c. refl) old.verts.cells new.verts.cells v (ap (λ (t : Stored). t.verts.cells) rest)
+  pub disk_verts : map (option_map (with_first_edge None)) new.verts.cells
+      ≡ map (option_map (with_first_edge None)) old.verts.cells
+  disk_verts = one_beside (with_first_edge None) (with_first_edge None) (λ c. refl) old.verts.cells new.verts.cells v
+      (ap (λ (t : Stored). t.verts.cells) rest)
 
   pub disk_edges : map (option_map without_disk) new.edges.cells ≡ map (option_map without_disk) old.edges.cells
   disk_edges = ap (λ (t : Stored). t.edges.cells) rest
@@ -110,11 +122,13 @@ module _ (old new : Stored) (v : ℕ) (rest : beside_disk new v ≡ beside_disk 
 
   -- darts are there as before
   pub disk_darts : (d : Dart) → (dart_links new).has d ≡ (dart_links old).has d
-  disk_darts d = told without_disk (λ (o : Option EdgeCell). is_some o && nat_lt d.side 2) (λ c. refl) old.edges.cells new.edges.cells disk_edges d.edge.0
+  disk_darts d = told without_disk (λ (o : Option EdgeCell). is_some o && nat_lt d.side 2) (λ c. refl) old.edges.cells
+      new.edges.cells disk_edges d.edge.0
 
   -- and end where they did
   pub disk_ends : (d : Dart) → dart_end new d ≡ dart_end old d
-  disk_ends d = told without_disk (option_map (end_on d.side)) (λ c. refl) old.edges.cells new.edges.cells disk_edges d.edge.0
+  disk_ends d = told without_disk (option_map (end_on d.side)) (λ c. refl) old.edges.cells new.edges.cells disk_edges
+      d.edge.0
 
   -- faces are as long
   pub disk_lens : (f : ℕ) → len_of new f ≡ len_of old f
@@ -138,8 +152,10 @@ module _ (old new : Stored) (e : ℕ) (rest : beside_radial new e ≡ beside_rad
   pub radial_loops : map (option_map without_radial) new.loops ≡ map (option_map without_radial) old.loops
   radial_loops = ap (λ (t : Stored). t.loops) rest
 
-  pub radial_edges : map (option_map (with_first_loop None)) new.edges.cells ≡ map (option_map (with_first_loop None)) old.edges.cells
-  radial_edges = one_beside (with_first_loop None) (with_first_loop None) (λ c. refl) old.edges.cells new.edges.cells e (ap (λ (t : Stored). t.edges.cells) rest)
+  pub radial_edges : map (option_map (with_first_loop None)) new.edges.cells
+      ≡ map (option_map (with_first_loop None)) old.edges.cells
+  radial_edges = one_beside (with_first_loop None) (with_first_loop None) (λ c. refl) old.edges.cells new.edges.cells e
+      (ap (λ (t : Stored). t.edges.cells) rest)
 
   pub radial_pools : SamePools old new
   radial_pools = record {
@@ -154,11 +170,13 @@ module _ (old new : Stored) (e : ℕ) (rest : beside_radial new e ≡ beside_rad
 
   -- loops name the same edges
   pub radial_edge_of : (l : Slot) → edge_of new l ≡ edge_of old l
-  radial_edge_of l = told without_radial (option_map (λ (c : LoopCell). c.edge.0)) (λ c. refl) old.loops new.loops radial_loops l.0
+  radial_edge_of l = told without_radial (option_map (λ (c : LoopCell). c.edge.0)) (λ c. refl) old.loops new.loops
+      radial_loops l.0
 
   -- and the same faces
   pub radial_face_of : (l : Slot) → face_of new l ≡ face_of old l
-  radial_face_of l = told without_radial (option_map (λ (c : LoopCell). c.face.0)) (λ c. refl) old.loops new.loops radial_loops l.0
+  radial_face_of l = told without_radial (option_map (λ (c : LoopCell). c.face.0)) (λ c. refl) old.loops new.loops
+      radial_loops l.0
 
   -- faces are as long
   pub radial_lens : (f : ℕ) → len_of new f ≡ len_of old f
@@ -167,7 +185,8 @@ module _ (old new : Stored) (e : ℕ) (rest : beside_radial new e ≡ beside_rad
   -- so is everything but cycles
   pub radial_bare : bare new ≡ bare old
   radial_bare =
-      let edges = covered_by (with_first_loop None) bare_edge (λ c. refl) old.edges.cells new.edges.cells radial_edges in
+      let edges = covered_by (with_first_loop None) bare_edge (λ c. refl) old.edges.cells new.edges.cells radial_edges
+      in
       let loops = covered_by without_radial bare_loop (λ c. refl) old.loops new.loops radial_loops in
       λ i. record {
         verts = record { cells = map (option_map bare_vert) (rest i).verts.cells; names = (rest i).verts.names };
@@ -184,7 +203,8 @@ module _ (old new : Stored) (f : ℕ) (rest : beside_round new f ≡ beside_roun
   round_loops = ap (λ (t : Stored). t.loops) rest
 
   pub round_faces : map (option_map bare_face) new.faces.cells ≡ map (option_map bare_face) old.faces.cells
-  round_faces = one_beside bare_face bare_face (λ c. refl) old.faces.cells new.faces.cells f (ap (λ (t : Stored). t.faces.cells) rest)
+  round_faces = one_beside bare_face bare_face (λ c. refl) old.faces.cells new.faces.cells f
+      (ap (λ (t : Stored). t.faces.cells) rest)
 
   pub round_pools : SamePools old new
   round_pools = record {
@@ -199,13 +219,15 @@ module _ (old new : Stored) (f : ℕ) (rest : beside_round new f ≡ beside_roun
 
   -- loops name the same faces
   pub round_face_of : (l : Slot) → face_of new l ≡ face_of old l
-  round_face_of l = told without_round (option_map (λ (c : LoopCell). c.face.0)) (λ c. refl) old.loops new.loops round_loops l.0
+  round_face_of l = told without_round (option_map (λ (c : LoopCell). c.face.0)) (λ c. refl) old.loops new.loops
+      round_loops l.0
 
   -- every other face is as long
   pub round_lens : (g : ℕ) → g ≢ f → len_of new g ≡ len_of old g
   round_lens g ne =
       let other = λ (t : Stored). changed_elsewhere bare_face t.faces.cells f g ne in
-      ap (option_map (λ (c : FaceCell). c.len)) (sym (other new) ∙ ap (λ (t : Stored). at t.faces.cells g) rest ∙ other old)
+      ap (option_map (λ (c : FaceCell). c.len)) (sym (other new) ∙ ap (λ (t : Stored). at t.faces.cells g) rest
+      ∙ other old)
 
   -- so is everything but cycles
   pub round_bare : bare new ≡ bare old
@@ -223,20 +245,27 @@ module _ (old new : Stored) (f : ℕ) (rest : beside_round new f ≡ beside_roun
 
 module _ (old new : Stored) (e : bare new ≡ bare old) where
   -- of each vertex all but its first edge
-  pub bare_vert_told : {Z : Type 0} (g : Option VertCell → Z) → ((c : VertCell) → g (Some c) ≡ g (Some (bare_vert c))) → (s : ℕ) → g (at new.verts.cells s) ≡ g (at old.verts.cells s)
-  bare_vert_told g same s = told bare_vert g same old.verts.cells new.verts.cells (ap (λ (t : Stored). t.verts.cells) e) s
+  pub bare_vert_told : {Z : Type 0} (g : Option VertCell → Z) → ((c : VertCell) → g (Some c) ≡ g (Some (bare_vert c)))
+      → (s : ℕ) → g (at new.verts.cells s) ≡ g (at old.verts.cells s)
+  bare_vert_told g same s = told bare_vert g same old.verts.cells new.verts.cells (ap (λ (t : Stored). t.verts.cells) e)
+      s
 
   -- of each edge all but its disk links and its first loop
-  pub bare_edge_told : {Z : Type 0} (g : Option EdgeCell → Z) → ((c : EdgeCell) → g (Some c) ≡ g (Some (bare_edge c))) → (s : ℕ) → g (at new.edges.cells s) ≡ g (at old.edges.cells s)
-  bare_edge_told g same s = told bare_edge g same old.edges.cells new.edges.cells (ap (λ (t : Stored). t.edges.cells) e) s
+  pub bare_edge_told : {Z : Type 0} (g : Option EdgeCell → Z) → ((c : EdgeCell) → g (Some c) ≡ g (Some (bare_edge c)))
+      → (s : ℕ) → g (at new.edges.cells s) ≡ g (at old.edges.cells s)
+  bare_edge_told g same s = told bare_edge g same old.edges.cells new.edges.cells (ap (λ (t : Stored). t.edges.cells) e)
+      s
 
   -- of each loop its vertex, its edge and its face
-  pub bare_loop_told : {Z : Type 0} (g : Option LoopCell → Z) → ((c : LoopCell) → g (Some c) ≡ g (Some (bare_loop c))) → (s : ℕ) → g (at new.loops s) ≡ g (at old.loops s)
+  pub bare_loop_told : {Z : Type 0} (g : Option LoopCell → Z) → ((c : LoopCell) → g (Some c) ≡ g (Some (bare_loop c)))
+      → (s : ℕ) → g (at new.loops s) ≡ g (at old.loops s)
   bare_loop_told g same s = told bare_loop g same old.loops new.loops (ap (λ (t : Stored). t.loops) e) s
 
   -- of each face its number
-  pub bare_face_told : {Z : Type 0} (g : Option FaceCell → Z) → ((c : FaceCell) → g (Some c) ≡ g (Some (bare_face c))) → (s : ℕ) → g (at new.faces.cells s) ≡ g (at old.faces.cells s)
-  bare_face_told g same s = told bare_face g same old.faces.cells new.faces.cells (ap (λ (t : Stored). t.faces.cells) e) s
+  pub bare_face_told : {Z : Type 0} (g : Option FaceCell → Z) → ((c : FaceCell) → g (Some c) ≡ g (Some (bare_face c)))
+      → (s : ℕ) → g (at new.faces.cells s) ≡ g (at old.faces.cells s)
+  bare_face_told g same s = told bare_face g same old.faces.cells new.faces.cells (ap (λ (t : Stored). t.faces.cells) e)
+      s
 
   -- the live places, their number and the names
   pub bare_pools : SamePools old new

@@ -22,7 +22,8 @@ none_by_name (o ∷ names) (suc low) h = none_by_name names low (λ k p. h (suc 
 
 -- the first name that leads somewhere gives the first slot, and the names after it the others
 first_by_name : (names : List (Option Slot)) (low name : ℕ) (s : Slot) → low ≤ name → at names name ≡ Some s
-    → ((k : ℕ) → low ≤ k → k < name → at names k ≡ None) → by_name (drop low names) ≡ s ∷ by_name (drop (suc name) names)
+    → ((k : ℕ) → low ≤ k → k < name → at names k ≡ None)
+    → by_name (drop low names) ≡ s ∷ by_name (drop (suc name) names)
 first_by_name [] low name s from here none = absurd (cc)
 first_by_name (o ∷ names) zero zero s from here none = ap (λ (x : Option Slot). cons_option x (by_name names)) here
 first_by_name (o ∷ names) zero (suc name) s from here none =
@@ -34,19 +35,24 @@ first_by_name (o ∷ names) (suc low) (suc name) s from here none =
     first_by_name names low name s (omega arith) here (λ k p q. none (suc k) (omega arith) (omega arith))
 
 -- the number of a cell to which a name leads is that name
-pub named_number : {X : Type 0} (number : X → ℕ) (cells : List (Option X)) (names : List (Option Slot)) (low : ℕ) (s : Slot) (n : ℕ)
-    → AreNamed number cells names → (l : LeadsFirst names low s) → option_map number (at cells s.0) ≡ Some n → n ≡ l.name
+pub named_number : {X : Type 0} (number : X → ℕ) (cells : List (Option X)) (names : List (Option Slot)) (low : ℕ)
+    (s : Slot) (n : ℕ)
+    → AreNamed number cells names → (l : LeadsFirst names low s) → option_map number (at cells s.0) ≡ Some n
+    → n ≡ l.name
 named_number number cells names low s n a l e = let m = a.live l.name s l.here in (cc)
 
 -- one step
-pub next_by_name : {X : Type 0} (number : X → ℕ) (cells : List (Option X)) (names : List (Option Slot)) (low : ℕ) (s : Slot) (n : ℕ)
-    → AreNamed number cells names → LeadsFirst names low s → option_map number (at cells s.0) ≡ Some n → by_name (drop low names) ≡ s ∷ by_name (drop (n + 1) names)
+pub next_by_name : {X : Type 0} (number : X → ℕ) (cells : List (Option X)) (names : List (Option Slot)) (low : ℕ)
+    (s : Slot) (n : ℕ)
+    → AreNamed number cells names → LeadsFirst names low s → option_map number (at cells s.0) ≡ Some n
+    → by_name (drop low names) ≡ s ∷ by_name (drop (n + 1) names)
 next_by_name number cells names low s n a l e =
     let same : suc l.name ≡ n + 1 = (let p = named_number number cells names low s n a l e in omega arith) in
     first_by_name names low l.name s l.from l.here l.none ∙ ap (λ (k : ℕ). s ∷ by_name (drop k names)) same
 
 -- a walk that has nothing left gives None
-pub yields_none : {S : Type 0} (rest : S → List Slot) (s : S) (o : Option Slot) → o ≡ None → rest s ≡ [] → YieldsFirst rest s o s
+pub yields_none : {S : Type 0} (rest : S → List Slot) (s : S) (o : Option Slot) → o ≡ None → rest s ≡ []
+    → YieldsFirst rest s o s
 yields_none rest s None e n = (n, n)
 yields_none rest s (Some x) e n = absurd (cc)
 
@@ -67,14 +73,19 @@ name_of (Some x ∷ names) s h = elim h [
 ]
 
 -- where no two names lead to one slot, none comes twice
-distinct_names : (names : List (Option Slot)) → ((n m : ℕ) (s : Slot) → at names n ≡ Some s → at names m ≡ Some s → n ≡ m) → AllDistinct (by_name names)
+distinct_names : (names : List (Option Slot))
+    → ((n m : ℕ) (s : Slot) → at names n ≡ Some s → at names m ≡ Some s → n ≡ m) → AllDistinct (by_name names)
 distinct_names [] one = tt
-distinct_names (None ∷ names) one = distinct_names names (λ n m s p q. (let e = one (suc n) (suc m) s p q in omega arith))
+distinct_names (None ∷ names) one = distinct_names names (λ n m s p q.
+    (let e = one (suc n) (suc m) s p q in omega arith))
 distinct_names (Some x ∷ names) one = (
-  (λ h. let t = name_of names x h in let e : 0 ≡ suc t.name = one 0 (suc t.name) x refl t.leads in absurd (omega arith)),
+  (λ h. let t = name_of names x h in let e : 0 ≡ suc t.name =
+      one 0 (suc t.name) x refl t.leads in absurd (omega arith)),
   distinct_names names (λ n m s p q. (let e = one (suc n) (suc m) s p q in omega arith)),
 )
 
 -- the same of a store's names
-pub names_once : {X : Type 0} (number : X → ℕ) (cells : List (Option X)) (names : List (Option Slot)) → AreNamed number cells names → AllDistinct (by_name names)
-names_once number cells names a = distinct_names names (λ n m s p q. let x = a.live n s p in let y = a.live m s q in (cc))
+pub names_once : {X : Type 0} (number : X → ℕ) (cells : List (Option X)) (names : List (Option Slot))
+    → AreNamed number cells names → AllDistinct (by_name names)
+names_once number cells names a = distinct_names names (λ n m s p q. let x = a.live n s p in let y =
+    a.live m s q in (cc))

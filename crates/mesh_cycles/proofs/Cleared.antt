@@ -15,7 +15,8 @@ use Rattle.mesh_cycles.specs.Lists.{ring_list, same_dart, same_radial, same_roun
 use Rattle.mesh_cycles.specs.Cycles.{AreCycles, HaveNoFirsts, EndsDiffer, dart_limit, loop_limit, disk_of, radial_of, round_of}
 
 -- the list that has no first member is empty
-none_listed : {K : Type 0} (same : K → K → Bool) (m : LinkMap K) (limit : ℕ) (first : Option K) → first ≡ None → ring_list same m limit first ≡ []
+none_listed : {K : Type 0} (same : K → K → Bool) (m : LinkMap K) (limit : ℕ) (first : Option K) → first ≡ None
+    → ring_list same m limit first ≡ []
 none_listed same m limit first e = ap (ring_list same m limit) e
 
 -- and reads as it
@@ -25,9 +26,12 @@ none_read m first zs e n = subst (ReadsAs m first) (sym n) (record { ring = tt; 
 -- where no cycle has a first member, all cycles hold
 pub none_begin : (st : Stored) → HaveNoFirsts st → EndsDiffer st.edges.cells → AreCycles st
 none_begin st n differ =
-    let disk : (v : ℕ) → disk_of st v ≡ [] = λ v. none_listed same_dart (dart_links st) (dart_limit st) (first_dart st v) (n.verts v) in
-    let radial : (e : ℕ) → radial_of st e ≡ [] = λ e. none_listed same_radial (radial_links st) (loop_limit st) (first_radial st e) (n.edges e) in
-    let round : (f : ℕ) → round_of st f ≡ [] = λ f. none_listed same_round (round_links st) (loop_limit st) (first_round st f) (n.faces f) in
+    let disk : (v : ℕ) → disk_of st v ≡ [] =
+    λ v. none_listed same_dart (dart_links st) (dart_limit st) (first_dart st v) (n.verts v) in
+    let radial : (e : ℕ) → radial_of st e ≡ [] =
+    λ e. none_listed same_radial (radial_links st) (loop_limit st) (first_radial st e) (n.edges e) in
+    let round : (f : ℕ) → round_of st f ≡ [] =
+    λ f. none_listed same_round (round_links st) (loop_limit st) (first_round st f) (n.faces f) in
     record {
       disks = λ v. none_read (dart_links st) (first_dart st v) (disk_of st v) (n.verts v) (disk v);
       radials = λ e. none_read (radial_links st) (first_radial st e) (radial_of st e) (n.edges e) (radial e);
@@ -42,8 +46,11 @@ none_begin st n differ =
 pub cleared_cycles : (st : Stored) → AreCycles (cleared st)
 cleared_cycles st = none_begin (cleared st)
     (record {
-      verts = λ v. ap (option_and_then (λ (c : VertCell). option_map (dart_at (cleared st) v) c.first_edge)) (at_vacant (length st.verts.cells) v);
-      edges = λ e. ap (option_and_then (λ (c : EdgeCell). option_map (λ (l : Slot). record { 0 = l }) c.first_loop)) (at_vacant (length st.edges.cells) e);
-      faces = λ f. ap (option_and_then (λ (c : FaceCell). option_map (λ (l : Slot). record { 0 = l }) c.first_loop)) (at_vacant (length st.faces.cells) f);
+      verts = λ v. ap (option_and_then (λ (c : VertCell). option_map (dart_at (cleared st) v) c.first_edge))
+          (at_vacant (length st.verts.cells) v);
+      edges = λ e. ap (option_and_then (λ (c : EdgeCell). option_map (λ (l : Slot). record { 0 = l }) c.first_loop))
+          (at_vacant (length st.edges.cells) e);
+      faces = λ f. ap (option_and_then (λ (c : FaceCell). option_map (λ (l : Slot). record { 0 = l }) c.first_loop))
+          (at_vacant (length st.faces.cells) f);
     })
     (λ e c is. absurd (let q : None ≡ Some c = sym (at_vacant (length st.edges.cells) e) ∙ is in cc))

@@ -27,7 +27,8 @@ pub record Holds {K : Type 0} (same : K → K → Bool) (c : Kind K) : Type 0 wh
   pub reads : (o : ℕ) → ReadsAs c.links (c.first o) (cycle_at same c o)
   pub owned : (o : ℕ) (k : K) → HasMember (cycle_at same c o) k → c.owner k ≡ Some o
 
--- the cycle of o reads as the list `now`, and no link changed but of the keys that are touched, which are all of that owner
+-- the cycle of o reads as the list `now`, and no link changed but of the keys that are touched, which are all of that
+-- owner
 pub record Changes {K : Type 0} (old new : Kind K) (o : ℕ) (touched now : List K) : Type 0 where
   pub reads : ReadsAs new.links (new.first o) now
   pub firsts : (p : ℕ) → p ≢ o → new.first p ≡ old.first p
@@ -39,29 +40,35 @@ pub record Changes {K : Type 0} (old new : Kind K) (o : ℕ) (touched now : List
 
 module _ {K : Type 0} (same : K → K → Bool) (t : IsIdentityTest same) where
   -- the cycle that changed
-  pub own_cycle : {old new : Kind K} {o : ℕ} {touched now : List K} → Changes old new o touched now → cycle_at same new o ≡ now
+  pub own_cycle : {old new : Kind K} {o : ℕ} {touched now : List K} → Changes old new o touched now
+      → cycle_at same new o ≡ now
   own_cycle {old} {new} {o} {touched} {now} c = list_read same t new.links new.limit (new.first o) now c.reads c.limited
 
   -- every other cycle reads as before
   other_reads : {old new : Kind K} {o : ℕ} {touched now : List K} → Holds same old → Changes old new o touched now
       → (p : ℕ) → p ≢ o → ReadsAs new.links (new.first p) (cycle_at same old p)
   other_reads h c p ne =
-      reads_at (reads_elsewhere c.outside (λ j a b. ne (same_Some _ _ (sym (h.owned p j a) ∙ c.near j b))) (h.reads p)) (sym (c.firsts p ne))
+      reads_at (reads_elsewhere c.outside (λ j a b. ne (same_Some _ _ (sym (h.owned p j a) ∙ c.near j b))) (h.reads p))
+      (sym (c.firsts p ne))
 
   -- and has the same members
   pub other_cycles : {old new : Kind K} {o : ℕ} {touched now : List K} → Holds same old → Changes old new o touched now
       → (p : ℕ) → p ≢ o → cycle_at same new p ≡ cycle_at same old p
-  other_cycles {old} {new} h c p ne = list_read same t new.links new.limit (new.first p) (cycle_at same old p) (other_reads h c p ne) c.limited
+  other_cycles {old} {new} h c p ne = list_read same t new.links new.limit (new.first p) (cycle_at same old p)
+      (other_reads h c p ne) c.limited
 
   -- so all hold
-  pub still_holds : {old new : Kind K} {o : ℕ} {touched now : List K} → Holds same old → Changes old new o touched now → Holds same new
+  pub still_holds : {old new : Kind K} {o : ℕ} {touched now : List K} → Holds same old → Changes old new o touched now
+      → Holds same new
   still_holds {old} {new} {o} {touched} {now} h c = record {
     reads = λ p. elim (cases_eq p o) [
-      | inl e ↦ (let P = λ (q : ℕ). ReadsAs new.links (new.first q) (cycle_at same new q) in subst P (sym e) (reads_along c.reads (sym (own_cycle c))))
+      | inl e ↦ (let P = λ (q : ℕ). ReadsAs new.links (new.first q) (cycle_at same new q) in subst P (sym e)
+          (reads_along c.reads (sym (own_cycle c))))
       | inr ne ↦ reads_along (other_reads h c p ne) (sym (other_cycles h c p ne))
     ];
     owned = λ p k m. elim (cases_eq p o) [
-      | inl e ↦ c.owners k ∙ c.members k (member_of k m (ap (cycle_at same new) e ∙ own_cycle c)) ∙ ap (λ (q : ℕ). Some q) (sym e)
+      | inl e ↦ c.owners k ∙ c.members k (member_of k m (ap (cycle_at same new) e ∙ own_cycle c))
+          ∙ ap (λ (q : ℕ). Some q) (sym e)
       | inr ne ↦ c.owners k ∙ h.owned p k (member_of k m (other_cycles h c p ne))
     ];
   }
@@ -90,7 +97,8 @@ last_more same c o k h e j m = near_more same c o k h e j (member_flip (cycle_at
 
 -- and with k put behind another member
 pub behind_more : {K : Type 0} (same : K → K → Bool) (c : Kind K) (o : ℕ) (k : K) → Holds same c → c.owner k ≡ Some o
-    → (xs : List K) (place : K) (ys : List K) → cycle_at same c o ≡ xs ++ place ∷ ys → (j : K) → HasMember (xs ++ place ∷ k ∷ ys) j → c.owner j ≡ Some o
+    → (xs : List K) (place : K) (ys : List K) → cycle_at same c o ≡ xs ++ place ∷ ys → (j : K)
+    → HasMember (xs ++ place ∷ k ∷ ys) j → c.owner j ≡ Some o
 behind_more {K} same c o k h e xs place ys whole j m =
     let old : HasMember (xs ++ place ∷ ys) j → HasMember (cycle_at same c o) j = λ a. member_of j a (sym whole) in
     near_more same c o k h e j (elim (member_cases xs (place ∷ k ∷ ys) j m) [

@@ -35,8 +35,10 @@ the_other zero (suc k) a b ne = omega arith
 the_other (suc side) zero a b ne = refl
 the_other (suc side) (suc k) a b ne = absurd (ne (omega arith))
 
-module _ (old new : Stored) (h : AreCycles old) (s : Slot) (to : List Slot) (side : ℕ) (low : side < 2) (none : IsInNoDisk old (record { edge = s; side = side }))
-    (stays : (c : EdgeCell) → at old.edges.cells s.0 ≡ Some c → end_in to (other_side side) ≡ end_on (other_side side) c) (differ : end_in to 0 ≢ end_in to 1) where
+module _ (old new : Stored) (h : AreCycles old) (s : Slot) (to : List Slot) (side : ℕ) (low : side < 2)
+    (none : IsInNoDisk old (record { edge = s; side = side }))
+    (stays : (c : EdgeCell) → at old.edges.cells s.0 ≡ Some c
+    → end_in to (other_side side) ≡ end_on (other_side side) c) (differ : end_in to 0 ≢ end_in to 1) where
   made : Stored
   made = change_edge (with_ends to) old s.0
 
@@ -44,7 +46,8 @@ module _ (old new : Stored) (h : AreCycles old) (s : Slot) (to : List Slot) (sid
   now = option_map (with_ends to) (at old.edges.cells s.0)
 
   -- what g tells of an edge and not of its ends
-  told_beside : {Z : Type 0} (g : Option EdgeCell → Z) → ((c : EdgeCell) → g (Some (with_ends to c)) ≡ g (Some c)) → (t : ℕ) → g (at made.edges.cells t) ≡ g (at old.edges.cells t)
+  told_beside : {Z : Type 0} (g : Option EdgeCell → Z) → ((c : EdgeCell) → g (Some (with_ends to c)) ≡ g (Some c))
+      → (t : ℕ) → g (at made.edges.cells t) ≡ g (at old.edges.cells t)
   unfolding made now
   told_beside g same t = told_set g old.edges.cells s.0 now (by_cell (at old.edges.cells s.0)) t
     where
@@ -56,58 +59,79 @@ module _ (old new : Stored) (h : AreCycles old) (s : Slot) (to : List Slot) (sid
   member_side : (v : ℕ) (d : Dart) → HasMember (disk_of old v) d → d.edge.0 ≡ s.0 → d.side ≡ other_side side
   member_side v d m e =
       the_other side d.side low (is_dart old d (member_key d (h.disks v) m)).1
-      (λ q. let P = HasMember (disk_of old v) in none v (subst P (λ i. record { edge = record { 0 = e i }; side = q i }) m))
+      (λ q. let P = HasMember (disk_of old v) in none v (subst P (λ i. record { edge = record { 0 = e i }; side = q i })
+      m))
 
   ends_stay : (v : ℕ) (d : Dart) → HasMember (disk_of old v) d → dart_end made d ≡ dart_end old d
   unfolding made now
   ends_stay v d m = elim (cases_eq d.edge.0 s.0) [
     | inl e ↦
-        let P = λ (k : ℕ). λ (j : ℕ). option_map (end_on k) (at made.edges.cells j) ≡ option_map (end_on k) (at old.edges.cells j) in
+        let P = λ (k : ℕ). λ (j : ℕ). option_map (end_on k) (at made.edges.cells j)
+        ≡ option_map (end_on k) (at old.edges.cells j) in
         let Q = λ (k : ℕ). P k d.edge.0 in
         let R = λ (j : ℕ). P (other_side side) j in
-        subst Q (sym (member_side v d m e)) (subst R (sym e) (ap (option_map (end_on (other_side side))) (changed_here (with_ends to) old.edges.cells s.0) ∙ by_cell (at old.edges.cells s.0) (λ c q. stays c q)))
+        subst Q (sym (member_side v d m e)) (subst R (sym e)
+        (ap (option_map (end_on (other_side side))) (changed_here (with_ends to) old.edges.cells s.0)
+        ∙ by_cell (at old.edges.cells s.0) (λ c q. stays c q)))
     | inr ne ↦ ap (option_map (end_on d.side)) (changed_elsewhere (with_ends to) old.edges.cells s.0 d.edge.0 ne)
   ]
     where
-      by_cell : (o : Option EdgeCell) → ((c : EdgeCell) → o ≡ Some c → end_in to (other_side side) ≡ end_on (other_side side) c)
-          → option_map (end_on (other_side side)) (option_map (with_ends to) o) ≡ option_map (end_on (other_side side)) o
+      by_cell : (o : Option EdgeCell) → ((c : EdgeCell) → o ≡ Some c
+          → end_in to (other_side side) ≡ end_on (other_side side) c)
+          → option_map (end_on (other_side side)) (option_map (with_ends to) o)
+          ≡ option_map (end_on (other_side side)) o
       by_cell None q = refl
       by_cell (Some c) q = ap (λ (k : ℕ). Some k) (q c refl)
 
   -- the side on which an edge ends at a vertex
-  side_stays : (v : ℕ) (c : EdgeCell) → at old.edges.cells s.0 ≡ Some c → HasMember (disk_of old v) (record { edge = s; side = side_at v c }) → side_at v (with_ends to c) ≡ side_at v c
+  side_stays : (v : ℕ) (c : EdgeCell) → at old.edges.cells s.0 ≡ Some c
+      → HasMember (disk_of old v) (record { edge = s; side = side_at v c }) → side_at v (with_ends to c) ≡ side_at v c
   side_stays v c is m =
       let is_other = member_side v (record { edge = s; side = side_at v c }) m refl in
-      let ends : dart_end old (record { edge = s; side = other_side side }) ≡ Some v = (let P = λ (k : ℕ). dart_end old (record { edge = s; side = k }) ≡ Some v in subst P is_other (h.disk_ends v (record { edge = s; side = side_at v c }) m)) in
-      let at_v : end_on (other_side side) c ≡ v = same_Some _ _ (sym (ap (option_map (end_on (other_side side))) is) ∙ ends) in
+      let ends : dart_end old (record { edge = s; side = other_side side }) ≡ Some v =
+      (let P = λ (k : ℕ). dart_end old (record { edge = s; side = k })
+      ≡ Some v in subst P is_other (h.disk_ends v (record { edge = s; side = side_at v c }) m)) in
+      let at_v : end_on (other_side side) c ≡ v =
+      same_Some _ _ (sym (ap (option_map (end_on (other_side side))) is) ∙ ends) in
       by_side side (stays c is) at_v is_other
     where
-      by_side : (k : ℕ) → end_in to (other_side k) ≡ end_on (other_side k) c → end_on (other_side k) c ≡ v → side_at v c ≡ other_side k → side_at v (with_ends to c) ≡ side_at v c
-      by_side zero p q r = ap (λ (b : Bool). cond b 0 1) (false_from_ne_true (end_in to 0 == v) (λ e. differ (eqb-true (end_in to 0) v e ∙ sym (p ∙ q)))) ∙ sym r
+      by_side : (k : ℕ) → end_in to (other_side k) ≡ end_on (other_side k) c → end_on (other_side k) c ≡ v
+          → side_at v c ≡ other_side k → side_at v (with_ends to c) ≡ side_at v c
+      by_side zero p q r = ap (λ (b : Bool). cond b 0 1) (false_from_ne_true (end_in to 0 == v)
+          (λ e. differ (eqb-true (end_in to 0) v e ∙ sym (p ∙ q)))) ∙ sym r
       by_side (suc k) p q r = ap (λ (b : Bool). cond b 0 1) (eq-eqb (end_in to 0) v (p ∙ q)) ∙ sym r
 
   firsts_stay : (v : ℕ) → first_dart made v ≡ first_dart old v
   unfolding made now
   firsts_stay v =
       first_by made v
-      ∙ darts_agree (first_edge_in (at old.verts.cells v)) (λ e is. first_member (dart_at old v e) (h.disks v) (first_by old v ∙ ap (option_map (dart_at old v)) is))
+      ∙ darts_agree (first_edge_in (at old.verts.cells v)) (λ e is.
+      first_member (dart_at old v e) (h.disks v) (first_by old v ∙ ap (option_map (dart_at old v)) is))
       ∙ sym (first_by old v)
     where
-      at_cell : (o : Option EdgeCell) → at old.edges.cells s.0 ≡ o → HasMember (disk_of old v) (record { edge = s; side = option_map_or (side_at v) o 0 }) → option_map_or (side_at v) (option_map (with_ends to) o) 0 ≡ option_map_or (side_at v) o 0
+      at_cell : (o : Option EdgeCell) → at old.edges.cells s.0 ≡ o
+          → HasMember (disk_of old v) (record { edge = s; side = option_map_or (side_at v) o 0 })
+          → option_map_or (side_at v) (option_map (with_ends to) o) 0 ≡ option_map_or (side_at v) o 0
       at_cell None q m = refl
       at_cell (Some c) q m = side_stays v c q m
 
-      same_side : (e : Slot) → HasMember (disk_of old v) (dart_at old v e) → option_map_or (side_at v) (at made.edges.cells e.0) 0 ≡ option_map_or (side_at v) (at old.edges.cells e.0) 0
+      same_side : (e : Slot) → HasMember (disk_of old v) (dart_at old v e)
+          → option_map_or (side_at v) (at made.edges.cells e.0) 0 ≡ option_map_or (side_at v) (at old.edges.cells e.0) 0
       same_side e m = elim (cases_eq e.0 s.0) [
         | inl q ↦
-            let P = λ (k : ℕ). option_map_or (side_at v) (at made.edges.cells k) 0 ≡ option_map_or (side_at v) (at old.edges.cells k) 0 in
+            let P = λ (k : ℕ). option_map_or (side_at v) (at made.edges.cells k) 0
+            ≡ option_map_or (side_at v) (at old.edges.cells k) 0 in
             let Q = λ (x : Slot). HasMember (disk_of old v) (dart_at old v x) in
             let slot : e ≡ s = λ i. record { 0 = q i } in
-            subst P (sym q) (ap (λ (o : Option EdgeCell). option_map_or (side_at v) o 0) (changed_here (with_ends to) old.edges.cells s.0) ∙ at_cell (at old.edges.cells s.0) refl (subst Q slot m))
-        | inr ne ↦ ap (λ (o : Option EdgeCell). option_map_or (side_at v) o 0) (changed_elsewhere (with_ends to) old.edges.cells s.0 e.0 ne)
+            subst P (sym q) (ap (λ (o : Option EdgeCell). option_map_or (side_at v) o 0)
+            (changed_here (with_ends to) old.edges.cells s.0)
+            ∙ at_cell (at old.edges.cells s.0) refl (subst Q slot m))
+        | inr ne ↦ ap (λ (o : Option EdgeCell). option_map_or (side_at v) o 0)
+            (changed_elsewhere (with_ends to) old.edges.cells s.0 e.0 ne)
       ]
 
-      darts_agree : (o : Option Slot) → ((e : Slot) → o ≡ Some e → HasMember (disk_of old v) (dart_at old v e)) → option_map (dart_at made v) o ≡ option_map (dart_at old v) o
+      darts_agree : (o : Option Slot) → ((e : Slot) → o ≡ Some e → HasMember (disk_of old v) (dart_at old v e))
+          → option_map (dart_at made v) o ≡ option_map (dart_at old v) o
       darts_agree None m = refl
       darts_agree (Some e) m = (let is = same_side e (m e refl) in λ i. Some (record { edge = e; side = is i }))
 

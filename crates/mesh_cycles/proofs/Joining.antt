@@ -17,21 +17,26 @@ use Rattle.mesh_cycles.specs.Found.{edges_around, joins, NoneJoins, JoinsFirst, 
 
 -- an edge that joins a vertex to another is around it
 joins_by : (st : Stored) (a b : ℕ) (e : Slot) (o : Option EdgeCell) → at st.edges.cells e.0 ≡ o → HasWholeDisk st a
-    → option_map_or (λ (c : EdgeCell). ((end_on 0 c == a) && (end_on 1 c == b)) || ((end_on 0 c == b) && (end_on 1 c == a))) o false ≡ true → HasMember (edges_around st a) e
+    → option_map_or (λ (c : EdgeCell). ((end_on 0 c == a) && (end_on 1 c == b)) ||
+    ((end_on 0 c == b) && (end_on 1 c == a))) o false ≡ true → HasMember (edges_around st a) e
 joins_by st a b e None was w h = absurd (false≢true h)
-joins_by st a b e (Some c) was w h = elim (or_cases ((end_on 0 c == a) && (end_on 1 c == b)) ((end_on 0 c == b) && (end_on 1 c == a)) h) [
-  | inl p ↦
-      let t = and_parts (end_on 0 c == a) (end_on 1 c == b) p in
-      let d : Dart = record { edge = e; side = 0 } in
-      mapped_to (λ (d : Dart). d.edge) (disk_of st a) d (w d (rw was refl) (rw was (ap Some (eqb-true (end_on 0 c) a t.0))))
-  | inr p ↦
-      let t = and_parts (end_on 0 c == b) (end_on 1 c == a) p in
-      let d : Dart = record { edge = e; side = 1 } in
-      mapped_to (λ (d : Dart). d.edge) (disk_of st a) d (w d (rw was refl) (rw was (ap Some (eqb-true (end_on 1 c) a t.1))))
-]
+joins_by st a b e (Some c) was w h = elim (or_cases ((end_on 0 c == a) && (end_on 1 c == b))
+    ((end_on 0 c == b) && (end_on 1 c == a)) h) [
+      | inl p ↦
+          let t = and_parts (end_on 0 c == a) (end_on 1 c == b) p in
+          let d : Dart = record { edge = e; side = 0 } in
+          mapped_to (λ (d : Dart). d.edge) (disk_of st a) d (w d (rw was refl)
+          (rw was (ap Some (eqb-true (end_on 0 c) a t.0))))
+      | inr p ↦
+          let t = and_parts (end_on 0 c == b) (end_on 1 c == a) p in
+          let d : Dart = record { edge = e; side = 1 } in
+          mapped_to (λ (d : Dart). d.edge) (disk_of st a) d (w d (rw was refl)
+          (rw was (ap Some (eqb-true (end_on 1 c) a t.1))))
+    ]
 
 -- the same of `joins`
-pub joins_around : (st : Stored) (a b : ℕ) (e : Slot) → HasWholeDisk st a → joins st a b e ≡ true → HasMember (edges_around st a) e
+pub joins_around : (st : Stored) (a b : ℕ) (e : Slot) → HasWholeDisk st a → joins st a b e ≡ true
+    → HasMember (edges_around st a) e
 joins_around st a b e w h = joins_by st a b e (at st.edges.cells e.0) refl w h
 
 -- of the edges seen, one joins a and b, and no other that does has a lesser name
@@ -42,10 +47,12 @@ pub record IsLeastIn (st : Stored) (a b : ℕ) (seen : List Slot) (e : Slot) : T
 
 -- the least-named of the edges seen, or none where none of them joins a and b
 abbrev pub IsLeast : Stored → ℕ → ℕ → List Slot → Option Slot → Type 0
-IsLeast st a b seen o = MatchOption o ((k : Slot) → HasMember seen k → joins st a b k ≡ true → ⊥) (IsLeastIn st a b seen)
+IsLeast st a b seen o = MatchOption o ((k : Slot) → HasMember seen k → joins st a b k ≡ true → ⊥)
+    (IsLeastIn st a b seen)
 
 -- one more that does not join them
-pub least_passed : (st : Stored) (a b : ℕ) (seen : List Slot) (o : Option Slot) (e : Slot) → joins st a b e ≡ false → IsLeast st a b seen o → IsLeast st a b (seen ++ e ∷ []) o
+pub least_passed : (st : Stored) (a b : ℕ) (seen : List Slot) (o : Option Slot) (e : Slot) → joins st a b e ≡ false
+    → IsLeast st a b seen o → IsLeast st a b (seen ++ e ∷ []) o
 least_passed st a b seen None e n h = λ k m j. elim (member_cases seen (e ∷ []) k m) [
   | inl p ↦ h k p j
   | inr p ↦ (let P = λ (s : Slot). joins st a b s ≡ true in false≢true (sym n ∙ subst P (sym (member_one p)) j))
@@ -55,7 +62,8 @@ least_passed st a b seen (Some x) e n h = record {
   joined = h.joined;
   least = λ k m j. elim (member_cases seen (e ∷ []) k m) [
     | inl p ↦ h.least k p j
-    | inr p ↦ (let P = λ (s : Slot). joins st a b s ≡ true in absurd (false≢true (sym n ∙ subst P (sym (member_one p)) j)))
+    | inr p ↦ (let P = λ (s : Slot). joins st a b s
+        ≡ true in absurd (false≢true (sym n ∙ subst P (sym (member_one p)) j)))
   ];
 }
 
@@ -95,7 +103,8 @@ least_changes st a b seen (Some x) e y n h = record {
 }
 
 -- all edges around a seen
-pub least_around : (st : Stored) (a b : ℕ) (o : Option Slot) → HasWholeDisk st a → IsLeast st a b (edges_around st a) o → MatchOption o (NoneJoins st a b) (JoinsFirst st a b)
+pub least_around : (st : Stored) (a b : ℕ) (o : Option Slot) → HasWholeDisk st a → IsLeast st a b (edges_around st a) o
+    → MatchOption o (NoneJoins st a b) (JoinsFirst st a b)
 least_around st a b None w h = λ e j. h e (joins_around st a b e w j) j
 least_around st a b (Some x) w h = record { joined = h.joined; least = λ k j. h.least k (joins_around st a b k w j) j }
 
@@ -112,12 +121,18 @@ joins_flipped st a b e = by_cell (at st.edges.cells e.0)
     flip false false = refl
 
     by_cell : (o : Option EdgeCell)
-        → option_map_or (λ (c : EdgeCell). ((end_on 0 c == a) && (end_on 1 c == b)) || ((end_on 0 c == b) && (end_on 1 c == a))) o false
-        ≡ option_map_or (λ (c : EdgeCell). ((end_on 0 c == b) && (end_on 1 c == a)) || ((end_on 0 c == a) && (end_on 1 c == b))) o false
+        → option_map_or (λ (c : EdgeCell). ((end_on 0 c == a) && (end_on 1 c == b)) ||
+        ((end_on 0 c == b) && (end_on 1 c == a))) o false
+        ≡ option_map_or (λ (c : EdgeCell). ((end_on 0 c == b) && (end_on 1 c == a)) ||
+        ((end_on 0 c == a) && (end_on 1 c == b))) o false
     by_cell None = refl
     by_cell (Some c) = flip ((end_on 0 c == a) && (end_on 1 c == b)) ((end_on 0 c == b) && (end_on 1 c == a))
 
 -- so the least-named edge from one to the other is that from the other to the one
-pub found_flipped : (st : Stored) (a b : ℕ) (o : Option Slot) → MatchOption o (NoneJoins st b a) (JoinsFirst st b a) → MatchOption o (NoneJoins st a b) (JoinsFirst st a b)
+pub found_flipped : (st : Stored) (a b : ℕ) (o : Option Slot) → MatchOption o (NoneJoins st b a) (JoinsFirst st b a)
+    → MatchOption o (NoneJoins st a b) (JoinsFirst st a b)
 found_flipped st a b None h = λ e j. h e (sym (joins_flipped st a b e) ∙ j)
-found_flipped st a b (Some x) h = record { joined = joins_flipped st a b x ∙ h.joined; least = λ k j. h.least k (sym (joins_flipped st a b k) ∙ j) }
+found_flipped st a b (Some x) h = record {
+  joined = joins_flipped st a b x ∙ h.joined;
+  least = λ k j. h.least k (sym (joins_flipped st a b k) ∙ j);
+}

@@ -38,37 +38,47 @@ is_found None l e = absurd (false≢true e)
 is_found (Some k) l e = ap Some (same_slot k l (eqb-true k.0 l.0 e))
 
 -- a slot that may be missing is compared with one
-pub compared : (o : Option Slot) (l : Slot) → option_eq (λ (a b : Slot). a.0 == b.0) o (Some l) ≡ option_map_or (λ (k : Slot). k.0 == l.0) o false
+pub compared : (o : Option Slot) (l : Slot)
+    → option_eq (λ (a b : Slot). a.0 == b.0) o (Some l) ≡ option_map_or (λ (k : Slot). k.0 == l.0) o false
 compared None l = refl
 compared (Some k) l = refl
 
 -- ---- the loop with which a face comes
 
 -- a loop of the face is taken where the list has it
-pub takes_own : (st : Stored) (own : Option Slot) (ls : List Slot) (f l : Slot) → HasMember ls l → own ≡ Some l → own_or_first st own ls f ≡ Some l
+pub takes_own : (st : Stored) (own : Option Slot) (ls : List Slot) (f l : Slot) → HasMember ls l → own ≡ Some l
+    → own_or_first st own ls f ≡ Some l
 takes_own st own ls f l h is =
     ap (λ (o : Option Slot). own_or_first st o ls f) is
     ∙ ap (λ (o : Option Slot). option_or o (find (λ (k : Slot). (face_at st k).0 == f.0) ls)) (finds_slot ls l h)
 
 -- the face of a loop
-pub face_is : (o : Option LoopCell) (f : Slot) → option_map (λ (c : LoopCell). c.face) o ≡ Some f → option_map_or (λ (c : LoopCell). c.face) o no_slot ≡ f
+pub face_is : (o : Option LoopCell) (f : Slot) → option_map (λ (c : LoopCell). c.face) o ≡ Some f
+    → option_map_or (λ (c : LoopCell). c.face) o no_slot ≡ f
 face_is None f e = absurd (cc)
 face_is (Some c) f e = cc
 
 -- what has to be known of a loop, and of the first of its face's own cycle that passes the test
-pub leads_by : (st : Stored) (test : Slot → Bool) (ls : List Slot) (l f : Slot) (own : Option Slot) → option_map (λ (c : LoopCell). c.face) (at st.loops l.0) ≡ Some f
-    → IsLive st.faces.cells f.0 → own ≡ find test (loops_in st f.0) → leads st test ls l ≡ option_map_or (λ (k : Slot). k.0 == l.0) (own_or_first st own ls f) false
+pub leads_by : (st : Stored) (test : Slot → Bool) (ls : List Slot) (l f : Slot) (own : Option Slot)
+    → option_map (λ (c : LoopCell). c.face) (at st.loops l.0) ≡ Some f
+    → IsLive st.faces.cells f.0 → own ≡ find test (loops_in st f.0)
+    → leads st test ls l ≡ option_map_or (λ (k : Slot). k.0 == l.0) (own_or_first st own ls f) false
 leads_by st test ls l f own is live found =
-    let comes = λ (g : Slot). option_map_or (λ (k : Slot). k.0 == l.0) (own_or_first st (find test (loops_in st g.0)) ls g) false in
+    let comes = λ (g : Slot). option_map_or (λ (k : Slot). k.0 == l.0)
+    (own_or_first st (find test (loops_in st g.0)) ls g) false in
     ap (λ (g : Slot). holds (at st.faces.cells g.0) && comes g) (face_is (at st.loops l.0) f is)
     ∙ ap (λ (b : Bool). b && comes f) live
     ∙ ap (λ (o : Option Slot). option_map_or (λ (k : Slot). k.0 == l.0) (own_or_first st o ls f) false) (sym found)
 
 -- a face comes with its own loop where the list has it
-pub leads_own : (st : Stored) (test : Slot → Bool) (ls : List Slot) (l f : Slot) (own : Option Slot) → option_map (λ (c : LoopCell). c.face) (at st.loops l.0) ≡ Some f
-    → IsLive st.faces.cells f.0 → own ≡ find test (loops_in st f.0) → HasMember ls l → own ≡ Some l → leads st test ls l ≡ true
+pub leads_own : (st : Stored) (test : Slot → Bool) (ls : List Slot) (l f : Slot) (own : Option Slot)
+    → option_map (λ (c : LoopCell). c.face) (at st.loops l.0) ≡ Some f
+    → IsLive st.faces.cells f.0 → own ≡ find test (loops_in st f.0) → HasMember ls l → own ≡ Some l
+    → leads st test ls l ≡ true
 leads_own st test ls l f own is live found h e =
-    leads_by st test ls l f own is live found ∙ ap (λ (o : Option Slot). option_map_or (λ (k : Slot). k.0 == l.0) o false) (takes_own st own ls f l h e) ∙ itself l
+    leads_by st test ls l f own is live found
+    ∙ ap (λ (o : Option Slot). option_map_or (λ (k : Slot). k.0 == l.0) o false) (takes_own st own ls f l h e)
+    ∙ itself l
 
 -- ---- a walk along loops
 
@@ -79,13 +89,17 @@ member_at (x ∷ xs) zero d p = inl refl
 member_at (x ∷ xs) (suc n) d p = inr (member_at xs n d (omega arith))
 
 -- a walk begins with what gives a list
-pub began : {S : Type 0} (steps : S → Option Slot → S → Type 0) (all : List Slot) (s t : S) → s ≡ t → AlwaysYields steps (λ l. l) t all → YieldsList steps (λ l. l) s all
-began {S} steps all s t e a = let P = λ (x : S). AlwaysYields steps (λ (l : Slot). l) x all in record { runs = subst P (sym e) a }
+pub began : {S : Type 0} (steps : S → Option Slot → S → Type 0) (all : List Slot) (s t : S) → s ≡ t
+    → AlwaysYields steps (λ l. l) t all → YieldsList steps (λ l. l) s all
+began {S} steps all s t e a = let P = λ (x : S). AlwaysYields steps (λ (l : Slot). l) x all in record
+    { runs = subst P (sym e) a }
 
 -- the next loop of it is in the list
-pub next_walked : {S : Type 0} {steps : S → Option Slot → S → Type 0} {s : S} {all : List Slot} → YieldsList steps (λ l. l) s all
+pub next_walked : {S : Type 0} {steps : S → Option Slot → S → Type 0} {s : S} {all : List Slot}
+    → YieldsList steps (λ l. l) s all
     → (xs : List Slot) (t u : S) (l : Slot) → Yields steps s xs t → steps t (Some l) u → HasMember all l
-next_walked {all = all} w xs t u l y n = let at = YieldsList-turn w xs t y (Some l) u l refl n in member_along all (member_at all (length xs) l at.0) (sym at.1)
+next_walked {all = all} w xs t u l y n = let at =
+    YieldsList-turn w xs t y (Some l) u l refl n in member_along all (member_at all (length xs) l at.0) (sym at.1)
 
 -- the loop that is looked for was not passed, and of the passed ones the first that names the face is known
 pub record ArePassed (st : Stored) (own : Option Slot) (ls : List Slot) (f : Slot) (first : Option Slot) : Type 0 where
@@ -93,7 +107,8 @@ pub record ArePassed (st : Stored) (own : Option Slot) (ls : List Slot) (f : Slo
   pub named : first ≡ find (λ (l : Slot). (face_at st l).0 == f.0) ls
 
 -- it is not the loop looked for
-not_own : (own : Option Slot) (ls : List Slot) (l : Slot) → option_and_then (λ (k : Slot). find (λ (j : Slot). j.0 == k.0) ls) own ≡ None → (own ≡ Some l → ⊥)
+not_own : (own : Option Slot) (ls : List Slot) (l : Slot)
+    → option_and_then (λ (k : Slot). find (λ (j : Slot). j.0 == k.0) ls) own ≡ None → (own ≡ Some l → ⊥)
     → option_and_then (λ (k : Slot). find (λ (j : Slot). j.0 == k.0) (ls ++ l ∷ [])) own ≡ None
 not_own None ls l e n = refl
 not_own (Some k) ls l e n =
@@ -111,8 +126,10 @@ then_cond true l = refl
 then_cond false l = refl
 
 -- one more is passed, of this face
-pub passed_more : (st : Stored) (own : Option Slot) (ls : List Slot) (f : Slot) (first next : Option Slot) (l face : Slot) → ArePassed st own ls f first → (own ≡ Some l → ⊥)
-    → option_map (λ (c : LoopCell). c.face) (at st.loops l.0) ≡ Some face → next ≡ option_or first (then_some (face.0 == f.0) l) → ArePassed st own (ls ++ l ∷ []) f next
+pub passed_more : (st : Stored) (own : Option Slot) (ls : List Slot) (f : Slot) (first next : Option Slot)
+    (l face : Slot) → ArePassed st own ls f first → (own ≡ Some l → ⊥)
+    → option_map (λ (c : LoopCell). c.face) (at st.loops l.0) ≡ Some face
+    → next ≡ option_or first (then_some (face.0 == f.0) l) → ArePassed st own (ls ++ l ∷ []) f next
 passed_more st own ls f first next l face p n is e = record {
   apart = not_own own ls l p.apart n;
   named =
@@ -124,12 +141,15 @@ passed_more st own ls f first next l face p n is e = record {
 }
 
 -- at the end the list was given
-pub yielded_all : {S : Type 0} {steps : S → Option Slot → S → Type 0} {s : S} {all : List Slot} → YieldsList steps (λ l. l) s all → (xs : List Slot) (t u : S) → Yields steps s xs t → steps t None u → xs ≡ all
+pub yielded_all : {S : Type 0} {steps : S → Option Slot → S → Type 0} {s : S} {all : List Slot}
+    → YieldsList steps (λ l. l) s all → (xs : List Slot) (t u : S) → Yields steps s xs t → steps t None u → xs ≡ all
 yielded_all w xs t u y n = sym (map-id xs) ∙ (YieldsList-end w xs t y None u refl n).0
 
 -- all are passed
-pub passed_all : {S : Type 0} {steps : S → Option Slot → S → Type 0} {s : S} {all : List Slot} → YieldsList steps (λ l. l) s all → (xs : List Slot) (t u : S) → Yields steps s xs t → steps t None u
-    → (st : Stored) (own : Option Slot) (f : Slot) (first : Option Slot) → ArePassed st own xs f first → first ≡ own_or_first st own all f
+pub passed_all : {S : Type 0} {steps : S → Option Slot → S → Type 0} {s : S} {all : List Slot}
+    → YieldsList steps (λ l. l) s all → (xs : List Slot) (t u : S) → Yields steps s xs t → steps t None u
+    → (st : Stored) (own : Option Slot) (f : Slot) (first : Option Slot) → ArePassed st own xs f first
+    → first ≡ own_or_first st own all f
 passed_all w xs t u y n st own f first p =
     p.named
     ∙ sym (ap (λ (o : Option Slot). option_or o (find (λ (l : Slot). (face_at st l).0 == f.0) xs)) p.apart)

@@ -37,12 +37,18 @@ pub record Keeps {K : Type 0} (same : K → K → Bool) (old new : Kind K) : Typ
 
 module _ {K : Type 0} (same : K → K → Bool) (t : IsIdentityTest same) where
   -- so each reads as before
-  kept_reads : {old new : Kind K} → Holds same old → Keeps same old new → (o : ℕ) → ReadsAs new.links (new.first o) (cycle_at same old o)
-  kept_reads {old} {new} h k o = record { ring = ring_same (cycle_at same old o) (k.links o) (h.reads o).ring; start = k.firsts o ∙ (h.reads o).start }
+  kept_reads : {old new : Kind K} → Holds same old → Keeps same old new → (o : ℕ)
+      → ReadsAs new.links (new.first o) (cycle_at same old o)
+  kept_reads {old} {new} h k o = record {
+    ring = ring_same (cycle_at same old o) (k.links o) (h.reads o).ring;
+    start = k.firsts o ∙ (h.reads o).start;
+  }
 
   -- has the same members
-  kept_cycles : {old new : Kind K} → Holds same old → Keeps same old new → (o : ℕ) → cycle_at same new o ≡ cycle_at same old o
-  kept_cycles {old} {new} h k o = list_read same t new.links new.limit (new.first o) (cycle_at same old o) (kept_reads h k o) k.limited
+  kept_cycles : {old new : Kind K} → Holds same old → Keeps same old new → (o : ℕ)
+      → cycle_at same new o ≡ cycle_at same old o
+  kept_cycles {old} {new} h k o = list_read same t new.links new.limit (new.first o) (cycle_at same old o)
+      (kept_reads h k o) k.limited
 
   -- and holds
   kept_holds : {old new : Kind K} → Holds same old → Keeps same old new → Holds same new
@@ -52,11 +58,13 @@ module _ {K : Type 0} (same : K → K → Bool) (t : IsIdentityTest same) where
   }
 
 -- a cycle that begins with k has the member k
-pub first_member : {K : Type 0} {m : LinkMap K} {first : Option K} {zs : List K} (k : K) → ReadsAs m first zs → first ≡ Some k → HasMember zs k
+pub first_member : {K : Type 0} {m : LinkMap K} {first : Option K} {zs : List K} (k : K) → ReadsAs m first zs
+    → first ≡ Some k → HasMember zs k
 first_member k r e = let s = first_begins (reads_at r e) in member_of k (inl refl) (sym s.1)
 
 -- an empty cycle has no first member
-pub empty_first : {K : Type 0} {m : LinkMap K} {first : Option K} {zs : List K} → ReadsAs m first zs → zs ≡ [] → first ≡ None
+pub empty_first : {K : Type 0} {m : LinkMap K} {first : Option K} {zs : List K} → ReadsAs m first zs → zs ≡ []
+    → first ≡ None
 empty_first r e = (reads_along r e).start
 
 -- ---- what stays where every cell that a cycle goes through stays
@@ -74,7 +82,8 @@ abbrev pub round_part : LoopCell → LoopCell
 round_part c = record (without_radial c) { vert = no_slot; edge = no_slot }
 
 -- what g tells of a part is what it tells of the whole
-told_of_part : {X Z : Type 0} (f : X → X) (g : Option X → Z) → ((x : X) → g (Some x) ≡ g (Some (f x))) → (o p : Option X) → option_map f o ≡ option_map f p → g o ≡ g p
+told_of_part : {X Z : Type 0} (f : X → X) (g : Option X → Z) → ((x : X) → g (Some x) ≡ g (Some (f x)))
+    → (o p : Option X) → option_map f o ≡ option_map f p → g o ≡ g p
 told_of_part f g same o p e = kept f g same o ∙ ap g e ∙ sym (kept f g same p)
 
 -- each cycle begins with the same member, what it goes by stays at each member, and the two ends of an edge differ
@@ -82,24 +91,31 @@ pub record Stays (old new : Stored) : Type 0 where
   pub first_edges : (v : ℕ) → first_edge_in (at new.verts.cells v) ≡ first_edge_in (at old.verts.cells v)
   pub first_loops : (e : ℕ) → first_radial new e ≡ first_radial old e
   pub face_loops : (f : ℕ) → first_round new f ≡ first_round old f
-  pub darts : (v : ℕ) (d : Dart) → HasMember (disk_of old v) d → at new.edges.cells d.edge.0 ≡ at old.edges.cells d.edge.0
-  pub radials : (e : ℕ) (l : Radial) → HasMember (radial_of old e) l → option_map radial_part (at new.loops l.0.0) ≡ option_map radial_part (at old.loops l.0.0)
-  pub rounds : (f : ℕ) (l : Round) → HasMember (round_of old f) l → option_map round_part (at new.loops l.0.0) ≡ option_map round_part (at old.loops l.0.0)
+  pub darts : (v : ℕ) (d : Dart) → HasMember (disk_of old v) d
+      → at new.edges.cells d.edge.0 ≡ at old.edges.cells d.edge.0
+  pub radials : (e : ℕ) (l : Radial) → HasMember (radial_of old e) l
+      → option_map radial_part (at new.loops l.0.0) ≡ option_map radial_part (at old.loops l.0.0)
+  pub rounds : (f : ℕ) (l : Round) → HasMember (round_of old f) l
+      → option_map round_part (at new.loops l.0.0) ≡ option_map round_part (at old.loops l.0.0)
   pub differ : EndsDiffer new.edges.cells
 
 -- a vertex's first dart is the one that its first edge has there
 pub first_by : (st : Stored) (v : ℕ) → first_dart st v ≡ option_map (dart_at st v) (first_edge_in (at st.verts.cells v))
 first_by st v = by_cell (at st.verts.cells v)
   where
-    by_cell : (o : Option VertCell) → option_and_then (λ (c : VertCell). option_map (dart_at st v) c.first_edge) o ≡ option_map (dart_at st v) (first_edge_in o)
+    by_cell : (o : Option VertCell) → option_and_then (λ (c : VertCell). option_map (dart_at st v) c.first_edge) o
+        ≡ option_map (dart_at st v) (first_edge_in o)
     by_cell None = refl
     by_cell (Some c) = refl
 
 -- where each kind of cycles keeps its members, no cycle changes
-pub same_by : (old new : Stored) → AreCycles old → Keeps same_dart (disk_kind old) (disk_kind new) → Keeps same_radial (radial_kind old) (radial_kind new) → Keeps same_round (round_kind old) (round_kind new)
+pub same_by : (old new : Stored) → AreCycles old → Keeps same_dart (disk_kind old) (disk_kind new)
+    → Keeps same_radial (radial_kind old) (radial_kind new) → Keeps same_round (round_kind old) (round_kind new)
     → EndsDiffer new.edges.cells → SameCycles old new
 same_by old new h d l r e = record {
-  cycles = are_cycles new (kept_holds same_dart dart_test (disks_hold old h) d) (kept_holds same_radial radial_test (radials_hold old h) l) (kept_holds same_round round_test (rounds_hold old h) r) e;
+  cycles = are_cycles new (kept_holds same_dart dart_test (disks_hold old h) d)
+      (kept_holds same_radial radial_test (radials_hold old h) l)
+      (kept_holds same_round round_test (rounds_hold old h) r) e;
   disks = kept_cycles same_dart dart_test (disks_hold old h) d;
   radials = kept_cycles same_radial radial_test (radials_hold old h) l;
   rounds = kept_cycles same_round round_test (rounds_hold old h) r;
@@ -107,14 +123,18 @@ same_by old new h d l r e = record {
 
 module _ (old new : Stored) (h : AreCycles old) (w : Stays old new) where
   -- an edge that stays has the same dart at the vertex
-  darts_agree : (v : ℕ) (o : Option Slot) → ((e : Slot) → o ≡ Some e → at new.edges.cells e.0 ≡ at old.edges.cells e.0) → option_map (dart_at new v) o ≡ option_map (dart_at old v) o
+  darts_agree : (v : ℕ) (o : Option Slot) → ((e : Slot) → o ≡ Some e → at new.edges.cells e.0 ≡ at old.edges.cells e.0)
+      → option_map (dart_at new v) o ≡ option_map (dart_at old v) o
   darts_agree v None same = refl
-  darts_agree v (Some e) same = (let is = same e refl in λ i. Some (record { edge = e; side = option_map_or (side_at v) (is i) 0 }))
+  darts_agree v (Some e) same = (let is =
+      same e refl in λ i. Some (record { edge = e; side = option_map_or (side_at v) (is i) 0 }))
 
   first_darts : (v : ℕ) → first_dart new v ≡ first_dart old v
   first_darts v =
       first_by new v ∙ ap (option_map (dart_at new v)) (w.first_edges v)
-      ∙ darts_agree v (first_edge_in (at old.verts.cells v)) (λ e is. w.darts v (dart_at old v e) (first_member (dart_at old v e) (h.disks v) (first_by old v ∙ ap (option_map (dart_at old v)) is)))
+      ∙ darts_agree v (first_edge_in (at old.verts.cells v))
+      (λ e is. w.darts v (dart_at old v e) (first_member (dart_at old v e) (h.disks v)
+      (first_by old v ∙ ap (option_map (dart_at old v)) is)))
       ∙ sym (first_by old v)
 
   disks_keep : Keeps same_dart (disk_kind old) (disk_kind new)
@@ -130,7 +150,8 @@ module _ (old new : Stored) (h : AreCycles old) (w : Stays old new) where
   }
 
   -- what g tells of a member of a radial cycle
-  radial_told : {Z : Type 0} (g : Option LoopCell → Z) → ((c : LoopCell) → g (Some c) ≡ g (Some (radial_part c))) → (e : ℕ) (l : Radial) → HasMember (radial_of old e) l → g (at new.loops l.0.0) ≡ g (at old.loops l.0.0)
+  radial_told : {Z : Type 0} (g : Option LoopCell → Z) → ((c : LoopCell) → g (Some c) ≡ g (Some (radial_part c)))
+      → (e : ℕ) (l : Radial) → HasMember (radial_of old e) l → g (at new.loops l.0.0) ≡ g (at old.loops l.0.0)
   radial_told g same e l m = told_of_part radial_part g same (at new.loops l.0.0) (at old.loops l.0.0) (w.radials e l m)
 
   radials_keep : Keeps same_radial (radial_kind old) (radial_kind new)
@@ -138,15 +159,18 @@ module _ (old new : Stored) (h : AreCycles old) (w : Stays old new) where
     firsts = w.first_loops;
     links = λ e. record {
       has = λ l m. radial_told (λ (o : Option LoopCell). is_some o) (λ c. refl) e l m;
-      next = λ l m. radial_told (λ (o : Option LoopCell). option_map_or (λ (c : LoopCell). c.radial_next) o l) (λ c. refl) e l m;
-      prev = λ l m. radial_told (λ (o : Option LoopCell). option_map_or (λ (c : LoopCell). c.radial_prev) o l) (λ c. refl) e l m;
+      next = λ l m. radial_told (λ (o : Option LoopCell). option_map_or (λ (c : LoopCell). c.radial_next) o l)
+          (λ c. refl) e l m;
+      prev = λ l m. radial_told (λ (o : Option LoopCell). option_map_or (λ (c : LoopCell). c.radial_prev) o l)
+          (λ c. refl) e l m;
     };
     owners = λ e l m. radial_told (option_map (λ (c : LoopCell). c.edge.0)) (λ c. refl) e l m;
     limited = radials_limited new;
   }
 
   -- and of one of a loop cycle
-  round_told : {Z : Type 0} (g : Option LoopCell → Z) → ((c : LoopCell) → g (Some c) ≡ g (Some (round_part c))) → (f : ℕ) (l : Round) → HasMember (round_of old f) l → g (at new.loops l.0.0) ≡ g (at old.loops l.0.0)
+  round_told : {Z : Type 0} (g : Option LoopCell → Z) → ((c : LoopCell) → g (Some c) ≡ g (Some (round_part c)))
+      → (f : ℕ) (l : Round) → HasMember (round_of old f) l → g (at new.loops l.0.0) ≡ g (at old.loops l.0.0)
   round_told g same f l m = told_of_part round_part g same (at new.loops l.0.0) (at old.loops l.0.0) (w.rounds f l m)
 
   rounds_keep : Keeps same_round (round_kind old) (round_kind new)
@@ -154,8 +178,10 @@ module _ (old new : Stored) (h : AreCycles old) (w : Stays old new) where
     firsts = w.face_loops;
     links = λ f. record {
       has = λ l m. round_told (λ (o : Option LoopCell). is_some o) (λ c. refl) f l m;
-      next = λ l m. round_told (λ (o : Option LoopCell). option_map_or (λ (c : LoopCell). c.round_next) o l) (λ c. refl) f l m;
-      prev = λ l m. round_told (λ (o : Option LoopCell). option_map_or (λ (c : LoopCell). c.round_prev) o l) (λ c. refl) f l m;
+      next = λ l m. round_told (λ (o : Option LoopCell). option_map_or (λ (c : LoopCell). c.round_next) o l) (λ c. refl)
+          f l m;
+      prev = λ l m. round_told (λ (o : Option LoopCell). option_map_or (λ (c : LoopCell). c.round_prev) o l) (λ c. refl)
+          f l m;
     };
     owners = λ f l m. round_told (option_map (λ (c : LoopCell). c.face.0)) (λ c. refl) f l m;
     limited = rounds_limited new;

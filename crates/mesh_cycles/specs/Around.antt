@@ -18,7 +18,8 @@ standing_left st v s = filter (stands_at st v) (loops_along_left s)
 abbrev pub loops_around_left : LoopsOfVert → List Slot
 loops_around_left s =
     standing_left s.st.now s.vert.0 s.loops
-    ++ flat_map (λ (e : Slot). filter (stands_at s.st.now s.vert.0) (loops_along s.st.now e.0)) (edges_around_left s.edges)
+    ++ flat_map (λ (e : Slot). filter (stands_at s.st.now s.vert.0) (loops_along s.st.now e.0))
+    (edges_around_left s.edges)
 
 -- the next loop may be asked for
 pub record CanGiveLoopsAround (s : LoopsOfVert) : Type 0 where

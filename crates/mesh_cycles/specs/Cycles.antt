@@ -74,7 +74,8 @@ AreWhole st = (v : ℕ) → HasWholeDisk st v
 
 -- so is every dart of a live edge, but for one edge's
 abbrev pub AreWholeBut : ℕ → Stored → Type 0
-AreWholeBut e st = (v : ℕ) (d : Dart) → d.edge.0 ≢ e → IsTrue ((dart_links st).has d) → dart_end st d ≡ Some v → HasMember (disk_of st v) d
+AreWholeBut e st = (v : ℕ) (d : Dart) → d.edge.0 ≢ e → IsTrue ((dart_links st).has d) → dart_end st d ≡ Some v
+    → HasMember (disk_of st v) d
 
 -- every dart of a live edge is in the disk cycle of its end, and every live loop in the cycles of its edge and its face
 pub record AreComplete (st : Stored) : Type 0 where

@@ -79,7 +79,8 @@ bare st = record {
 
 -- ---- calls on one cycle
 
--- the disk cycle of a vertex has the members `now`. Disk links stay outside the keys `touched`, all other cycles have their members, and all
+-- the disk cycle of a vertex has the members `now`. Disk links stay outside the keys `touched`, all other cycles have
+-- their members, and all
 -- else stays: `rest`, and so `stays`
 pub record EditsDisk (old new : Stored) (v : ℕ) (touched now : List Dart) : Type 0 where
   pub own : disk_of new v ≡ now

@@ -17,7 +17,8 @@ AreAmong all ls = (l : Slot) → HasMember ls l → HasMember all l
 
 -- the faces along an edge that are still to come
 abbrev pub faces_along_left : FacesOfEdge → List Slot
-faces_along_left s = faces_led s.st.now (goes_along s.st.now s.edge.0) (loops_along s.st.now s.edge.0) (loops_along_left s.loops)
+faces_along_left s = faces_led s.st.now (goes_along s.st.now s.edge.0) (loops_along s.st.now s.edge.0)
+    (loops_along_left s.loops)
 
 -- the next face may be asked for
 pub record CanGiveFacesAlong (s : FacesOfEdge) : Type 0 where
@@ -28,7 +29,8 @@ pub record CanGiveFacesAlong (s : FacesOfEdge) : Type 0 where
 
 -- the faces around a vertex that are still to come
 abbrev pub faces_around_left : FacesOfVert → List Slot
-faces_around_left s = faces_led s.st.now (is_corner_at s.st.now s.vert.0) (loops_around s.st.now s.vert.0) (loops_around_left s.loops)
+faces_around_left s = faces_led s.st.now (is_corner_at s.st.now s.vert.0) (loops_around s.st.now s.vert.0)
+    (loops_around_left s.loops)
 
 -- the next face may be asked for
 pub record CanGiveFacesAround (s : FacesOfVert) : Type 0 where
@@ -39,7 +41,8 @@ pub record CanGiveFacesAround (s : FacesOfVert) : Type 0 where
 
 -- the second list has exactly the live faces of the loops of the first
 abbrev pub AreFacesOf : Stored → List Slot → List Slot → Type 0
-AreFacesOf st ls fs = (f : Slot) → HasMember fs f ↔ (IsLive st.faces.cells f.0 × ((l : Slot) × HasMember ls l × (face_at st l ≡ f)))
+AreFacesOf st ls fs = (f : Slot) → HasMember fs f
+    ↔ (IsLive st.faces.cells f.0 × ((l : Slot) × HasMember ls l × (face_at st l ≡ f)))
 
 -- the faces along an edge are the live faces of the loops along it
 abbrev pub AreFacesAlong : Stored → ℕ → Type 0

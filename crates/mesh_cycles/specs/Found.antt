@@ -59,7 +59,8 @@ face_at st l = option_map_or (λ (c : LoopCell). c.face) (at st.loops l.0) no_sl
 -- a loop, if there is one and it is among some loops, else the first of these that names a face
 abbrev pub own_or_first : Stored → Option Slot → List Slot → Slot → Option Slot
 own_or_first st own ls f =
-    option_or (option_and_then (λ (k : Slot). find (λ (l : Slot). l.0 == k.0) ls) own) (find (λ (l : Slot). (face_at st l).0 == f.0) ls)
+    option_or (option_and_then (λ (k : Slot). find (λ (l : Slot). l.0 == k.0) ls) own)
+    (find (λ (l : Slot). (face_at st l).0 == f.0) ls)
 
 -- of some loops, only this one names a face
 abbrev pub IsAlone : Stored → List Slot → Slot → Slot → Type 0
@@ -71,7 +72,8 @@ leader st test ls f = own_or_first st (find test (loops_in st f.0)) ls f
 
 -- the face of a loop is live, and comes with this loop
 abbrev pub leads : Stored → (Slot → Bool) → List Slot → Slot → Bool
-leads st test ls l = holds (at st.faces.cells (face_at st l).0) && option_map_or (λ (k : Slot). k.0 == l.0) (leader st test ls (face_at st l)) false
+leads st test ls l = holds (at st.faces.cells (face_at st l).0) && option_map_or (λ (k : Slot). k.0 == l.0)
+    (leader st test ls (face_at st l)) false
 
 -- the faces that come with some of all loops
 abbrev pub faces_led : Stored → (Slot → Bool) → List Slot → List Slot → List Slot
@@ -91,7 +93,8 @@ by_name names = filter_map (λ o. o) names
 
 -- a live edge joins two vertices
 abbrev pub joins : Stored → ℕ → ℕ → Slot → Bool
-joins st a b e = option_map_or (λ (c : EdgeCell). ((end_on 0 c == a) && (end_on 1 c == b)) || ((end_on 0 c == b) && (end_on 1 c == a))) (at st.edges.cells e.0) false
+joins st a b e = option_map_or (λ (c : EdgeCell). ((end_on 0 c == a) && (end_on 1 c == b)) ||
+    ((end_on 0 c == b) && (end_on 1 c == a))) (at st.edges.cells e.0) false
 
 -- no live edge joins two vertices
 abbrev pub NoneJoins : Stored → ℕ → ℕ → Type 0

@@ -51,8 +51,10 @@ first_dart st v = option_and_then (λ (c : VertCell). option_map (dart_at st v) 
 
 -- the loop with which an edge's radial cycle begins
 abbrev pub first_radial : Stored → ℕ → Option Radial
-first_radial st e = option_and_then (λ (c : EdgeCell). option_map (λ (l : Slot). record { 0 = l }) c.first_loop) (at st.edges.cells e)
+first_radial st e = option_and_then (λ (c : EdgeCell). option_map (λ (l : Slot). record { 0 = l }) c.first_loop)
+    (at st.edges.cells e)
 
 -- the loop with which a face's loop cycle begins
 abbrev pub first_round : Stored → ℕ → Option Round
-first_round st f = option_and_then (λ (c : FaceCell). option_map (λ (l : Slot). record { 0 = l }) c.first_loop) (at st.faces.cells f)
+first_round st f = option_and_then (λ (c : FaceCell). option_map (λ (l : Slot). record { 0 = l }) c.first_loop)
+    (at st.faces.cells f)

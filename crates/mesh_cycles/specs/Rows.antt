@@ -24,7 +24,8 @@ slots ns = map slot ns
 abbrev pub vert : ℕ → ℕ → Option VertCell
 vert name edge = Some (record { number = name; point = []; first_edge = Some (slot edge) })
 
--- an edge with its first loop, and for each end the edge on both sides of it in the disk cycle of that end, and that edge's side
+-- an edge with its first loop, and for each end the edge on both sides of it in the disk cycle of that end, and that
+-- edge's side
 abbrev pub edge : ℕ → ℕ → ℕ → ℕ → Dart → Dart → Option EdgeCell
 edge name a b first around_a around_b = Some (record {
   number = name;
@@ -50,7 +51,8 @@ corner v e f after before beside = Some (record {
 abbrev pub face : ℕ → ℕ → ℕ → Option FaceCell
 face name first len = Some (record { number = name; first_loop = Some (slot first); len = len })
 
--- the edge 0 from vertex 0 to 1 has loops 0 and 1 of face 0 and loop 2 of face 1; the edge 1 from vertex 0 to 2 has loop 3 of face 2
+-- the edge 0 from vertex 0 to 1 has loops 0 and 1 of face 0 and loop 2 of face 1; the edge 1 from vertex 0 to 2 has
+-- loop 3 of face 2
 abbrev pub small : Stored
 small = record {
   verts = record {
@@ -74,12 +76,14 @@ small = record {
 -- an edge ends where its darts do, a loop names its edge and its face, and what isn't there has none; lengths are right
 abbrev pub SmallOwners : Type 0
 SmallOwners =
-    (dart_end small (dart 1 1) ≡ Some 2) × (dart_end small (dart 2 0) ≡ None) × (edge_of small (slot 3) ≡ Some 1) × (face_of small (slot 3) ≡ Some 2) × (face_of small (slot 4) ≡ None)
+    (dart_end small (dart 1 1) ≡ Some 2) × (dart_end small (dart 2 0) ≡ None) × (edge_of small (slot 3) ≡ Some 1)
+    × (face_of small (slot 3) ≡ Some 2) × (face_of small (slot 4) ≡ None)
     × IsCounted small 0 × IsCounted small 2
 
 -- two edges are around vertex 0, and one around each other vertex
 abbrev pub SmallEdges : Type 0
-SmallEdges = map (edges_around small) (0 ∷ 1 ∷ 2 ∷ 3 ∷ []) ≡ slots (0 ∷ 1 ∷ []) ∷ slots (0 ∷ []) ∷ slots (1 ∷ []) ∷ [] ∷ []
+SmallEdges = map (edges_around small) (0 ∷ 1 ∷ 2 ∷ 3 ∷ [])
+    ≡ slots (0 ∷ 1 ∷ []) ∷ slots (0 ∷ []) ∷ slots (1 ∷ []) ∷ [] ∷ []
 
 -- three loops are along edge 0, one along edge 1, and none along an edge that is not there
 abbrev pub SmallLoops : Type 0
@@ -125,7 +129,8 @@ SmallNames = (by_name small.verts.names ≡ slots (2 ∷ 1 ∷ 0 ∷ [])) × (by
 -- edge 0 joins vertices 0 and 1 both ways, and no others
 abbrev pub SmallJoins : Type 0
 SmallJoins =
-    (joins small 0 1 (slot 0) ≡ true) × (joins small 1 0 (slot 0) ≡ true) × (joins small 0 2 (slot 0) ≡ false) × (joins small 1 1 (slot 0) ≡ false)
+    (joins small 0 1 (slot 0) ≡ true) × (joins small 1 0 (slot 0) ≡ true) × (joins small 0 2 (slot 0) ≡ false)
+    × (joins small 1 1 (slot 0) ≡ false)
     × (joins small 0 1 (slot 2) ≡ false)
 
 -- ---- lists
@@ -136,8 +141,10 @@ radials ns = map (λ n. record { 0 = slot n }) ns
 
 -- a member less, the first too
 abbrev pub OneLess : Type 0
-OneLess = map (λ n. without same_radial (record { 0 = slot n }) (radials (0 ∷ 1 ∷ 2 ∷ []))) (0 ∷ 1 ∷ 3 ∷ []) ≡ radials (1 ∷ 2 ∷ []) ∷ radials (0 ∷ 2 ∷ []) ∷ radials (0 ∷ 1 ∷ 2 ∷ []) ∷ []
+OneLess = map (λ n. without same_radial (record { 0 = slot n }) (radials (0 ∷ 1 ∷ 2 ∷ []))) (0 ∷ 1 ∷ 3 ∷ [])
+    ≡ radials (1 ∷ 2 ∷ []) ∷ radials (0 ∷ 2 ∷ []) ∷ radials (0 ∷ 1 ∷ 2 ∷ []) ∷ []
 
 -- a member more behind each of two
 abbrev pub OneMore : Type 0
-OneMore = map (λ n. with_behind same_radial (record { 0 = slot n }) (record { 0 = slot 7 }) (radials (0 ∷ 1 ∷ []))) (0 ∷ 1 ∷ []) ≡ radials (0 ∷ 7 ∷ 1 ∷ []) ∷ radials (0 ∷ 1 ∷ 7 ∷ []) ∷ []
+OneMore = map (λ n. with_behind same_radial (record { 0 = slot n }) (record { 0 = slot 7 }) (radials (0 ∷ 1 ∷ [])))
+    (0 ∷ 1 ∷ []) ≡ radials (0 ∷ 7 ∷ 1 ∷ []) ∷ radials (0 ∷ 1 ∷ 7 ∷ []) ∷ []

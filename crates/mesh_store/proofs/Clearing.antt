@@ -15,25 +15,30 @@ abbrev pub FirstLeft : {X : Type 0} → Option Slot → List (Option X) → ℕ 
 FirstLeft next xs low = MatchOption next (NoneLiveFrom xs low) (λ (t : Slot). IsFirstLive xs low t.0)
 
 -- with one more vacant place, fewer are live
-pub fewer_left : {X : Type 0} (old new : List (Option X)) → length new ≡ length old → spare_count new ≡ spare_count old + 1 → length new - spare_count new < length old - spare_count old
+pub fewer_left : {X : Type 0} (old new : List (Option X)) → length new ≡ length old
+    → spare_count new ≡ spare_count old + 1 → length new - spare_count new < length old - spare_count old
 fewer_left old new same more = let most = spare_le new in omega arith
 
 -- a list in which nothing is live
 pub none_vacated : {X : Type 0} (xs : List (Option X)) → NoneLiveFrom xs 0 → xs ≡ vacated xs
 none_vacated [] h = refl
 none_vacated {X} (x ∷ xs) h =
-    ap (λ (o : Option X). o ∷ xs) (h 0 (omega arith)) ∙ ap (λ (ys : List (Option X)). None ∷ ys) (none_vacated xs (λ k l. h (suc k) (omega arith)))
+    ap (λ (o : Option X). o ∷ xs) (h 0 (omega arith))
+    ∙ ap (λ (ys : List (Option X)). None ∷ ys) (none_vacated xs (λ k l. h (suc k) (omega arith)))
 
 -- where no cell is live, no name leads anywhere
-pub none_named : {X : Type 0} (number : X → ℕ) (cells : List (Option X)) (names : List (Option Slot)) → AreNamed number cells names → NoneLiveFrom cells 0 → NoneLiveFrom names 0
+pub none_named : {X : Type 0} (number : X → ℕ) (cells : List (Option X)) (names : List (Option Slot))
+    → AreNamed number cells names → NoneLiveFrom cells 0 → NoneLiveFrom names 0
 none_named {X} number cells names a h k l = by_name (at names k) refl
   where
     by_name : (o : Option Slot) → at names k ≡ o → o ≡ None
     by_name None e = refl
-    by_name (Some s) e = absurd (let none : None ≡ Some k = sym (ap (option_map number) (h s.0 (omega arith))) ∙ a.live k s e in cc)
+    by_name (Some s) e = absurd (let none : None ≡ Some k =
+        sym (ap (option_map number) (h s.0 (omega arith))) ∙ a.live k s e in cc)
 
 -- behind the slot that was taken out is the first that is left of all
-pub first_left : {X : Type 0} (xs : List (Option X)) (s : ℕ) (next : Option Slot) → IsFirstLive xs 0 s → s < length xs → FirstLeft next (slice_set xs s None) (s + 1) → FirstLeft next (slice_set xs s None) 0
+pub first_left : {X : Type 0} (xs : List (Option X)) (s : ℕ) (next : Option Slot) → IsFirstLive xs 0 s → s < length xs
+    → FirstLeft next (slice_set xs s None) (s + 1) → FirstLeft next (slice_set xs s None) 0
 first_left {X} xs s next f low h = by_next next h
   where
     before : (k : ℕ) → k < s + 1 → at (slice_set xs s None) k ≡ None

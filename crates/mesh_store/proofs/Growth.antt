@@ -25,13 +25,15 @@ at_longer (x ∷ xs) n zero = refl
 at_longer (x ∷ xs) n (suc s) = at_longer xs n s
 
 -- one place more, below the bound
-pub widens_more : {X : Type 0} {old new : List (Option X)} {bound : ℕ} → WidensTo old new bound → length new < bound → WidensTo old (new ++ None ∷ []) bound
+pub widens_more : {X : Type 0} {old new : List (Option X)} {bound : ℕ} → WidensTo old new bound → length new < bound
+    → WidensTo old (new ++ None ∷ []) bound
 widens_more {X} {old} {new} {bound} w h =
     let long : length new ≡ length old + w.more = ap length w.same ∙ simp (length-append, length-replicate) in
     let one : List (Option X) = None ∷ [] in
     record {
       more = w.more + 1;
-      same = ap (λ (xs : List (Option X)). xs ++ one) w.same ∙ append_assoc old (replicate w.more None) one ∙ ap (λ (xs : List (Option X)). old ++ xs) (replicate-append-replicate w.more 1 None);
+      same = ap (λ (xs : List (Option X)). xs ++ one) w.same ∙ append_assoc old (replicate w.more None) one
+          ∙ ap (λ (xs : List (Option X)). old ++ xs) (replicate-append-replicate w.more 1 None);
       most = omega arith;
     }
 
@@ -54,7 +56,8 @@ pool_same p n chunk reach = record {
 }
 
 -- the length after a growth
-pub grown_length : {X : Type 0} (old new : List (Option X)) (n chunk : ℕ) → GrowsFor old new n chunk → (n ≤ spare_count old → new ≡ old) → length old + n + chunk < 2 ^ 32 → length new < 2 ^ 32
+pub grown_length : {X : Type 0} (old new : List (Option X)) (n chunk : ℕ) → GrowsFor old new n chunk
+    → (n ≤ spare_count old → new ≡ old) → length old + n + chunk < 2 ^ 32 → length new < 2 ^ 32
 grown_length old new n chunk g e h =
     let long : length new ≡ length old + g.more = ap length g.same ∙ simp (length-append, length-replicate) in
     elim (cases_lt (spare_count old) n) [
@@ -63,41 +66,50 @@ grown_length old new n chunk g e h =
     ]
 
 -- the directory leads to the same cells
-pub names_longer : {X : Type 0} (number : X → ℕ) (cells more_cells : List (Option X)) (names more_names : List (Option Slot)) (j k : ℕ)
-    → more_cells ≡ cells ++ replicate j None → more_names ≡ names ++ replicate k None → AreNamed number cells names → AreNamed number more_cells more_names
+pub names_longer : {X : Type 0} (number : X → ℕ) (cells more_cells : List (Option X))
+    (names more_names : List (Option Slot)) (j k : ℕ)
+    → more_cells ≡ cells ++ replicate j None → more_names ≡ names ++ replicate k None → AreNamed number cells names
+    → AreNamed number more_cells more_names
 names_longer number cells more_cells names more_names j k e f a = record {
   named = λ s x h.
       let same : at more_cells s ≡ at cells s = ap (λ (xs : List (Option _)). at xs s) e ∙ at_longer cells j s in
       ap (λ (xs : List (Option Slot)). at xs (number x)) f ∙ at_longer names k (number x) ∙ a.named s x (sym same ∙ h);
   live = λ n s h.
       let same : at more_names n ≡ at names n = ap (λ (xs : List (Option Slot)). at xs n) f ∙ at_longer names k n in
-      ap (option_map number) (ap (λ (xs : List (Option _)). at xs s.0) e ∙ at_longer cells j s.0) ∙ a.live n s (sym same ∙ h);
+      ap (option_map number) (ap (λ (xs : List (Option _)). at xs s.0) e ∙ at_longer cells j s.0)
+      ∙ a.live n s (sym same ∙ h);
 }
 
 -- a table of names is as long as it was, or at most as long as its reach
-pub widened_length : {X : Type 0} (old new : List (Option X)) (bound : ℕ) → WidensTo old new bound → length old < 2 ^ 32 → bound < 2 ^ 32 → length new < 2 ^ 32
+pub widened_length : {X : Type 0} (old new : List (Option X)) (bound : ℕ) → WidensTo old new bound → length old < 2 ^ 32
+    → bound < 2 ^ 32 → length new < 2 ^ 32
 widened_length old new bound w h b =
     let long : length new ≡ length old + w.more = ap length w.same ∙ simp (length-append, length-replicate) in
     let most = w.most in
     omega arith
 
 -- a name that did not lead anywhere has no bit, also past the end
-pub longer_marks : (names more_names : List (Option Slot)) (marks more_marks : List ℕ) (bound : ℕ) → WidensTo names more_names bound → SameTags marks more_marks
+pub longer_marks : (names more_names : List (Option Slot)) (marks more_marks : List ℕ) (bound : ℕ)
+    → WidensTo names more_names bound → SameTags marks more_marks
     → ((j : ℕ) → tag_at marks j ≡ mark_of (at names j)) → (j : ℕ) → tag_at more_marks j ≡ mark_of (at more_names j)
 longer_marks names more_names marks more_marks bound w same h j =
     same j ∙ h j ∙ ap mark_of (sym (ap (λ (xs : List (Option Slot)). at xs j) w.same ∙ at_longer names w.more j))
 
 -- a table that is no longer than its bits, or than its reach, has a bit for each name
-pub widened_fits : {X : Type 0} (old new : List (Option X)) (bound marks more_marks : ℕ) → WidensTo old new bound → length old ≤ marks * 64 → marks ≤ more_marks → bound ≤ more_marks * 64 → length new ≤ more_marks * 64
+pub widened_fits : {X : Type 0} (old new : List (Option X)) (bound marks more_marks : ℕ) → WidensTo old new bound
+    → length old ≤ marks * 64 → marks ≤ more_marks → bound ≤ more_marks * 64 → length new ≤ more_marks * 64
 widened_fits old new bound marks more_marks w h m b =
     let long : length new ≡ length old + w.more = ap length w.same ∙ simp (length-append, length-replicate) in
     let most = w.most in
     omega arith
 
 -- what is true of a pool is true of it after more room was made
-pub names_hold : {X : Type 0} (number : X → ℕ) (cells more_cells : List (Option X)) (names more_names : List (Option Slot)) (marks more_marks : List ℕ) (n chunk reach : ℕ)
-    → NamesHold number cells names marks → GrowsFor cells more_cells n chunk → (n ≤ spare_count cells → more_cells ≡ cells) → length cells + n + chunk < 2 ^ 32
-    → WidensTo names more_names reach → reach < 2 ^ 32 → SameTags marks more_marks → length more_names ≤ length more_marks * 64 → NamesHold number more_cells more_names more_marks
+pub names_hold : {X : Type 0} (number : X → ℕ) (cells more_cells : List (Option X))
+    (names more_names : List (Option Slot)) (marks more_marks : List ℕ) (n chunk reach : ℕ)
+    → NamesHold number cells names marks → GrowsFor cells more_cells n chunk
+    → (n ≤ spare_count cells → more_cells ≡ cells) → length cells + n + chunk < 2 ^ 32
+    → WidensTo names more_names reach → reach < 2 ^ 32 → SameTags marks more_marks
+    → length more_names ≤ length more_marks * 64 → NamesHold number more_cells more_names more_marks
 names_hold number cells more_cells names more_names marks more_marks n chunk reach h g e room w r same fits = record {
   few_cells = grown_length cells more_cells n chunk g e room;
   few_names = widened_length names more_names reach w h.few_names r;
@@ -109,12 +121,17 @@ names_hold number cells more_cells names more_names marks more_marks n chunk rea
 -- ---- rows
 
 -- a pool with room has at most so many places
-pub grown_most : {X : Type 0} (old new : List (Option X)) (n chunk : ℕ) → 1 ≤ chunk → WidensCells old new n chunk → length new ≤ most_places old n chunk
+pub grown_most : {X : Type 0} (old new : List (Option X)) (n chunk : ℕ) → 1 ≤ chunk → WidensCells old new n chunk
+    → length new ≤ most_places old n chunk
 grown_most old new n chunk some w =
-    let long : length new ≡ length old + w.grows.more = ap length w.grows.same ∙ simp (length-append, length-replicate) in
+    let long : length new ≡ length old + w.grows.more =
+    ap length w.grows.same ∙ simp (length-append, length-replicate) in
     elim (cases_lt (spare_count old) n) [
-      | inl lt ↦ (let few = w.grows.few lt in let is : nat_le n (spare_count old) ≡ false = lt-leb n (spare_count old) lt in rw is (omega arith))
-      | inr ge ↦ (let same : length new ≡ length old = ap length (w.enough ge) in let is : nat_le n (spare_count old) ≡ true = le-leb n (spare_count old) ge in rw is (omega arith))
+      | inl lt ↦ (let few = w.grows.few lt in let is : nat_le n (spare_count old) ≡ false =
+          lt-leb n (spare_count old) lt in rw is (omega arith))
+      | inr ge ↦ (let same : length new ≡ length old =
+          ap length (w.enough ge) in let is : nat_le n (spare_count old) ≡ true =
+          le-leb n (spare_count old) ge in rw is (omega arith))
     ]
 
 -- rows as they were
@@ -124,5 +141,9 @@ rows_same t most = record { until = 0; same = sym (with_no_places t); few = omeg
     with_no_places : (u : LayerTable) → with_places u 0 ≡ u
     with_no_places u =
         let none : 0 - length u.rows ≡ 0 = omega arith in
-        ap (λ (n : ℕ). let t : LayerTable = record { layers = u.layers; rows = u.rows ++ replicate n (zeros (total u.layers)) } in t) none
-        ∙ ap (λ (rows : List (List ℤ)). let t : LayerTable = record { layers = u.layers; rows = rows } in t) (append-nil u.rows)
+        ap (λ (n : ℕ). let t : LayerTable = record {
+          layers = u.layers;
+          rows = u.rows ++ replicate n (zeros (total u.layers));
+        } in t) none
+        ∙ ap (λ (rows : List (List ℤ)). let t : LayerTable = record { layers = u.layers; rows = rows } in t)
+        (append-nil u.rows)

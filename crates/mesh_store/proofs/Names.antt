@@ -11,7 +11,8 @@ numbered_holds : {X : Type 0} (number : X → ℕ) (o : Option X) (n : ℕ) → 
 numbered_holds number None n e = cc
 numbered_holds number (Some x) n e = refl
 
-module _ {X : Type 0} {number : X → ℕ} {cells : List (Option X)} {names : List (Option Slot)} (h : AreNamed number cells names) where
+module _ {X : Type 0} {number : X → ℕ} {cells : List (Option X)} {names : List (Option Slot)}
+    (h : AreNamed number cells names) where
   -- the slot of a name is live
   pub named_live : (n : ℕ) (s : Slot) → Some s ≡ at names n → IsLive cells s.0
   named_live n s e = numbered_holds number (at cells s.0) n (h.live n s (sym e))

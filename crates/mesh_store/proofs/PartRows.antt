@@ -15,8 +15,33 @@ has_row Loop st s h live = let l = live_below st.loops s live in let r = h.loops
 has_row Face st s h live = let l = live_below st.faces.cells s live in let r = h.faces in omega arith
 
 -- where a part has as many rows as before, all rows are there
-pub rows_kept : (p : Part) (st : Stored) (t : LayerTable) → length t.rows ≡ length (table_of p st.values).rows → HasRows st → HasRows (record st { values = with_table p t st.values })
-rows_kept Vert st t e h = record { verts = (let r = h.verts in omega arith); edges = h.edges; loops = h.loops; faces = h.faces; few = h.few }
-rows_kept Edge st t e h = record { verts = h.verts; edges = (let r = h.edges in omega arith); loops = h.loops; faces = h.faces; few = h.few }
-rows_kept Loop st t e h = record { verts = h.verts; edges = h.edges; loops = (let r = h.loops in omega arith); faces = h.faces; few = h.few }
-rows_kept Face st t e h = record { verts = h.verts; edges = h.edges; loops = h.loops; faces = (let r = h.faces in omega arith); few = h.few }
+pub rows_kept : (p : Part) (st : Stored) (t : LayerTable) → length t.rows ≡ length (table_of p st.values).rows
+    → HasRows st → HasRows (record st { values = with_table p t st.values })
+rows_kept Vert st t e h = record {
+  verts = (let r = h.verts in omega arith);
+  edges = h.edges;
+  loops = h.loops;
+  faces = h.faces;
+  few = h.few;
+}
+rows_kept Edge st t e h = record {
+  verts = h.verts;
+  edges = (let r = h.edges in omega arith);
+  loops = h.loops;
+  faces = h.faces;
+  few = h.few;
+}
+rows_kept Loop st t e h = record {
+  verts = h.verts;
+  edges = h.edges;
+  loops = (let r = h.loops in omega arith);
+  faces = h.faces;
+  few = h.few;
+}
+rows_kept Face st t e h = record {
+  verts = h.verts;
+  edges = h.edges;
+  loops = h.loops;
+  faces = (let r = h.faces in omega arith);
+  few = h.few;
+}

@@ -13,7 +13,8 @@ mark_of None = 0
 mark_of (Some s) = 1
 
 -- names and slots fit 32 bits, the directory leads to the cells, and each name has its bit
-pub record NamesHold {X : Type 0} (number : X → ℕ) (cells : List (Option X)) (names : List (Option Slot)) (marks : List ℕ) : Type 0 where
+pub record NamesHold {X : Type 0} (number : X → ℕ) (cells : List (Option X)) (names : List (Option Slot))
+    (marks : List ℕ) : Type 0 where
   pub few_cells : length cells < 2 ^ 32
   pub few_names : length names < 2 ^ 32
   pub named : AreNamed number cells names

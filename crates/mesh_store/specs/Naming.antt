@@ -25,7 +25,8 @@ slot_code = code_by ℕ coded_ℕ (λ s. s.0) (λ n. record { 0 = n }) (λ _. re
 -- both lists as a pair
 abbrev pub named_code : {X : Type 0} → Coded X → Coded (NamedCells X)
 named_code {X} c =
-    code_by (List (Option X) × List (Option Slot)) (coded× (coded_list (coded_option c)) (coded_list (coded_option slot_code)))
+    code_by (List (Option X) × List (Option Slot)) (coded× (coded_list (coded_option c))
+    (coded_list (coded_option slot_code)))
     (λ p. (p.cells, p.names)) (λ p. record { cells = p.0; names = p.1 }) (λ _. refl)
 
 -- the number of what stands, and 0 where nothing does

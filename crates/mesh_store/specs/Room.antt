@@ -19,7 +19,8 @@ pub record WidensPool {X : Type 0} (old new : NamedCells X) (n chunk reach : ℕ
 
 -- how many places a list has at most once there is room for n
 abbrev pub most_places : {X : Type 0} → List (Option X) → ℕ → ℕ → ℕ
-most_places cells n chunk = if nat_le n (spare_count cells) then length cells else length cells + (n - spare_count cells) + (chunk - 1)
+most_places cells n chunk = if nat_le n (spare_count cells) then length cells else length cells +
+    (n - spare_count cells) + (chunk - 1)
 
 -- layers and rows stay; some rows of zeros come behind them, where there are fewer than so many
 pub record WidensRows (old new : LayerTable) (most : ℕ) : Type 0 where
@@ -28,7 +29,8 @@ pub record WidensRows (old new : LayerTable) (most : ℕ) : Type 0 where
   pub few : until ≤ most
 
 -- the same of all pools of a store, and of their rows
-pub record WidensStore (old new : Stored) (more_verts more_edges more_corners more_faces chunk : ℕ) (reach : List ℕ) : Type 0 where
+pub record WidensStore (old new : Stored) (more_verts more_edges more_corners more_faces chunk : ℕ) (reach : List ℕ) :
+    Type 0 where
   pub verts : WidensPool old.verts new.verts more_verts chunk (slice_index reach 0)
   pub edges : WidensPool old.edges new.edges more_edges chunk (slice_index reach 1)
   pub loops : WidensCells old.loops new.loops more_corners chunk

@@ -28,7 +28,8 @@ pub record Stored : Type 0 where
 
 -- no layers, and no rows
 abbrev pub no_values : Layers
-no_values = let none : LayerTable = record { layers = []; rows = [] } in record { verts = none; edges = none; loops = none; faces = none }
+no_values = let none : LayerTable = record { layers = []; rows = [] } in record
+    { verts = none; edges = none; loops = none; faces = none }
 
 -- an empty store
 abbrev pub empty_store : Stored
@@ -186,7 +187,12 @@ without_round l = record l { round_next = record { 0 = no_slot }; round_prev = r
 
 -- everything but the disk links
 abbrev pub beside_darts : Stored → Stored
-beside_darts st = record st { edges = record { cells = map (option_map without_disk) st.edges.cells; names = st.edges.names } }
+beside_darts st = record st {
+  edges = record {
+    cells = map (option_map without_disk) st.edges.cells;
+    names = st.edges.names;
+  };
+}
 
 -- everything but the radial links
 abbrev pub beside_radials : Stored → Stored

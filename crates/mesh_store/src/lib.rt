@@ -12,8 +12,9 @@
 //! | Call | Cost |
 //! |---|---|
 //! | readers, writers, adds and drops, `vert_slot` and its like, links | constant |
-//! | `vert_from` and its like | the names passed over |
+//! | `vert_from` and its like | the names passed over, 64 at a step |
 //! | `Store::reserve` | what is added, and a chunk of [`CHUNK`] places a pool |
+//! | `Store::clear` | the places and the names |
 #![tactic(auto)]
 
 mod cells;

@@ -5,7 +5,10 @@ use Rattle.link_ring.proofs.Numbers.{no_member}
 use Rattle.kernel_tests.proofs.rings.take_apart.Goals as goal
 
 pub take_out-follower-requires : goal.take_out-follower-requires
-take_out-follower-requires g c = (1 ∷ 3 ∷ 0 ∷ [], turned (g.L.Links.links c.args.links.now) (0 ∷ []) (2 ∷ 1 ∷ 3 ∷ []) c.requires.ring)
+take_out-follower-requires g c = (
+  1 ∷ 3 ∷ 0 ∷ [],
+  turned (g.L.Links.links c.args.links.now) (0 ∷ []) (2 ∷ 1 ∷ 3 ∷ []) c.requires.ring,
+)
 
 -- 1, 3 and 0
 pub swap_member-requires-clause-apart : goal.swap_member-requires-clause-apart

@@ -6,10 +6,12 @@ use Rattle.mesh_cycles.proofs.along_edge.faces_of_edge.Goals as goal
 
 pub returns-clause-once : goal.returns-clause-once
 returns-clause-once c =
-    let st = c.args.st.now in faces_once st (goes_along st c.args.e.0) (loops_along st c.args.e.0) (along_once st c.requires.cycles c.args.e.0)
+    let st = c.args.st.now in faces_once st (goes_along st c.args.e.0) (loops_along st c.args.e.0)
+    (along_once st c.requires.cycles c.args.e.0)
 
 pub returns-clause-all : goal.returns-clause-all
-returns-clause-all c = let st = c.args.st.now in faces_all st c.requires.cycles (goes_along st c.args.e.0) (loops_along st c.args.e.0)
+returns-clause-all c = let st = c.args.st.now in faces_all st c.requires.cycles (goes_along st c.args.e.0)
+    (loops_along st c.args.e.0)
 
 pub returns-clause-ready : goal.returns-clause-ready
 returns-clause-ready c = record {

@@ -10,7 +10,8 @@ use Rattle.mesh_cycles.proofs.along_edge.first_along.Goals as goal
 pub loop-l-init : goal.loop-l-init
 loop-l-init c =
     let st = c.args.st.now in
-    let same : loops_in_left c.into_iter-l-iterator.result ≡ loops_in st c.args.f.0 = ap loops_in_left c.into_iter-l-iterator.ensures.into_iter_gives ∙ c.corners_of_face-l-items.ensures.items in
+    let same : loops_in_left c.into_iter-l-iterator.result ≡ loops_in st c.args.f.0 =
+    ap loops_in_left c.into_iter-l-iterator.ensures.into_iter_gives ∙ c.corners_of_face-l-items.ensures.items in
     record {
       ready = search rules;
       live = λ l h. in_live st c.requires.cycles c.args.f.0 l (member_of l h same);

@@ -6,10 +6,12 @@ use Rattle.mesh_cycles.proofs.around_vert.faces_of_vert.Goals as goal
 
 pub returns-clause-once : goal.returns-clause-once
 returns-clause-once c =
-    let st = c.args.st.now in faces_once st (is_corner_at st c.args.v.0) (loops_around st c.args.v.0) (loops_once st c.requires.cycles c.args.v.0)
+    let st = c.args.st.now in faces_once st (is_corner_at st c.args.v.0) (loops_around st c.args.v.0)
+    (loops_once st c.requires.cycles c.args.v.0)
 
 pub returns-clause-all : goal.returns-clause-all
-returns-clause-all c = let st = c.args.st.now in faces_all st c.requires.cycles (is_corner_at st c.args.v.0) (loops_around st c.args.v.0)
+returns-clause-all c = let st = c.args.st.now in faces_all st c.requires.cycles (is_corner_at st c.args.v.0)
+    (loops_around st c.args.v.0)
 
 pub returns-clause-ready : goal.returns-clause-ready
 returns-clause-ready c = record {

@@ -9,5 +9,6 @@ abbrev pub invariant-loop-l : goal.invariant-loop-l
 invariant-loop-l l = record {
   ready : goal.iterator-loop-l.can_next l.l-iterator;
   live : AllLive l.st.loops (loops_in_left l.l-iterator);
-  same : find (is_corner_at l.st l.v.0) (loops_in_left l.l-iterator) ≡ find (is_corner_at l.st l.v.0) (loops_in l.st l.fn.f.0);
+  same : find (is_corner_at l.st l.v.0) (loops_in_left l.l-iterator)
+      ≡ find (is_corner_at l.st l.v.0) (loops_in l.st l.fn.f.0);
 }

@@ -15,7 +15,8 @@ loop_face-f-requires c = around_live c.args.st.now c.requires.cycles c.args.v.0 
 pub own_or_first-requires-clause-live : goal.own_or_first-requires-clause-live
 own_or_first-requires-clause-live c = (
   loops_around c.args.st.now c.args.v.0,
-  (YieldsList-from_first (λ l. l) loops_around_left (loops_around c.args.st.now c.args.v.0) c.loops_of_vert.ensures.items).runs,
+  (YieldsList-from_first (λ l. l) loops_around_left (loops_around c.args.st.now c.args.v.0)
+      c.loops_of_vert.ensures.items).runs,
   around_live c.args.st.now c.requires.cycles c.args.v.0,
 )
 
@@ -24,7 +25,8 @@ returns-then-eq c =
     let st = c.args.st.now in
     let own = c.first_corner_at-own in
     c.if-eq.true
-    ∙ sym (leads_own st (is_corner_at st c.args.v.0) (loops_around st c.args.v.0) c.args.l c.loop_face-f.result own.result c.loop_face-f.ensures (c.has_face.ensures.0 c.if-not-has_face.false) own.ensures c.requires.member
+    ∙ sym (leads_own st (is_corner_at st c.args.v.0) (loops_around st c.args.v.0) c.args.l c.loop_face-f.result
+    own.result c.loop_face-f.ensures (c.has_face.ensures.0 c.if-not-has_face.false) own.ensures c.requires.member
     (is_found own.result c.args.l (sym (compared own.result c.args.l) ∙ sym c.eq.ensures ∙ c.if-eq.true)))
 
 pub returns-else-eq : goal.returns-else-eq
@@ -32,22 +34,29 @@ returns-else-eq c =
     let st = c.args.st.now in
     let own = c.first_corner_at-own in
     let picked = c.own_or_first in
-    let runs = YieldsList-from_first (λ l. l) loops_around_left (loops_around st c.args.v.0) c.loops_of_vert.ensures.items in
+    let runs = YieldsList-from_first (λ l. l) loops_around_left (loops_around st c.args.v.0)
+    c.loops_of_vert.ensures.items in
     c.eq-else-eq.ensures
     ∙ compared picked.result c.args.l
-    ∙ ap (λ (o : Option Slot). option_map_or (λ (k : Slot). k.0 == c.args.l.0) o false) (picked.ensures (loops_around st c.args.v.0) runs.runs)
-    ∙ sym (leads_by st (is_corner_at st c.args.v.0) (loops_around st c.args.v.0) c.args.l c.loop_face-f.result own.result c.loop_face-f.ensures (c.has_face.ensures.0 c.if-not-has_face.false) own.ensures)
+    ∙ ap (λ (o : Option Slot). option_map_or (λ (k : Slot). k.0 == c.args.l.0) o false)
+    (picked.ensures (loops_around st c.args.v.0) runs.runs)
+    ∙ sym (leads_by st (is_corner_at st c.args.v.0) (loops_around st c.args.v.0) c.args.l c.loop_face-f.result
+    own.result c.loop_face-f.ensures (c.has_face.ensures.0 c.if-not-has_face.false) own.ensures)
 
 pub is_alone-requires-clause-live : goal.is_alone-requires-clause-live
 is_alone-requires-clause-live c = (
   loops_around c.args.st.now c.args.v.0,
-  (YieldsList-from_first (λ l. l) loops_around_left (loops_around c.args.st.now c.args.v.0) c.loops_of_vert-loops.ensures.items).runs,
+  (YieldsList-from_first (λ l. l) loops_around_left (loops_around c.args.st.now c.args.v.0)
+      c.loops_of_vert-loops.ensures.items).runs,
   around_live c.args.st.now c.requires.cycles c.args.v.0,
 )
 
 pub returns-then-is_alone : goal.returns-then-is_alone
 returns-then-is_alone c =
     let st = c.args.st.now in
-    let runs = YieldsList-from_first (λ l. l) loops_around_left (loops_around st c.args.v.0) c.loops_of_vert-loops.ensures.items in
-    sym (leads_alone st c.requires.cycles (is_corner_at st c.args.v.0) (loops_around st c.args.v.0) c.loop_face-f.result c.args.l c.requires.member c.loop_face-f.ensures
-    (c.has_face.ensures.0 c.if-not-has_face.false) (c.is_alone.ensures (loops_around st c.args.v.0) runs.runs c.if-is_alone.true))
+    let runs = YieldsList-from_first (λ l. l) loops_around_left (loops_around st c.args.v.0)
+    c.loops_of_vert-loops.ensures.items in
+    sym (leads_alone st c.requires.cycles (is_corner_at st c.args.v.0) (loops_around st c.args.v.0) c.loop_face-f.result
+    c.args.l c.requires.member c.loop_face-f.ensures
+    (c.has_face.ensures.0 c.if-not-has_face.false) (c.is_alone.ensures (loops_around st c.args.v.0) runs.runs
+    c.if-is_alone.true))

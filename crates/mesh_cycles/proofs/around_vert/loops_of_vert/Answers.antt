@@ -13,7 +13,8 @@ pub returns-clause-ready : goal.returns-clause-ready
 returns-clause-ready c = record {
   cycles = c.requires.cycles;
   edges = c.edges_of_vert.ensures.ready;
-  live_edges = λ e h. edge_live c.args.st.now c.requires.cycles c.args.v.0 e (member_of e h c.edges_of_vert.ensures.items);
+  live_edges = λ e h. edge_live c.args.st.now c.requires.cycles c.args.v.0 e
+      (member_of e h c.edges_of_vert.ensures.items);
   loops = c.no_loops.ensures.ready;
   live_loops = λ l h. absurd (member_of l h c.no_loops.ensures.none);
 }

@@ -13,6 +13,7 @@ returns c =
     let st = c.args.st.now in
     let f = c.args.f.0 in
     let counted : c.count-count.result ≡ length (loops_in st f) =
-    count_from_yields_List c.corners_of_face.result _ c.count-count.ensures.ran (YieldsList-from_first (λ l. l) loops_in_left (loops_in st f) c.corners_of_face.ensures.items) in
+    count_from_yields_List c.corners_of_face.result _ c.count-count.ensures.ran
+    (YieldsList-from_first (λ l. l) loops_in_left (loops_in st f) c.corners_of_face.ensures.items) in
     let same : length (loops_in st f) ≡ length (round_of st f) = length-map (round_of st f) (λ (l : Round). l.0) in
     c.set_face_len.ensures ∙ ap (λ (n : ℕ). change_face (with_face_len n) st f) (counted ∙ same)

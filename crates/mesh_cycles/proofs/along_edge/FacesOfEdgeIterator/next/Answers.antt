@@ -6,4 +6,5 @@ use Rattle.mesh_cycles.proofs.along_edge.FacesOfEdgeIterator.next.Goals as goal
 pub loop_face-requires : goal.loop_face-requires
 loop_face-requires c =
     let ready = c.loop-l.invariant.ready in
-    along_live c.loop-l.self.st.now ready.cycles c.loop-l.self.edge.0 c.in-Some.l (ready.among c.in-Some.l (member_of c.in-Some.l (inl refl) (sym c.in-Some.ensures.steps)))
+    along_live c.loop-l.self.st.now ready.cycles c.loop-l.self.edge.0 c.in-Some.l
+    (ready.among c.in-Some.l (member_of c.in-Some.l (inl refl) (sym c.in-Some.ensures.steps)))

@@ -21,11 +21,14 @@ edges-preserved c =
         edges = c.in_ok-e.ensures.goes.keeps;
         live_edges = λ e h. ready.live_edges e (member_of e (inr h) (sym c.in_ok-e.ensures.steps));
         loops = c.loops_of_edge-self.ensures.ready;
-        live_loops = λ l h. along_live st ready.cycles c.in_ok-e.e.0 l (member_of l h c.loops_of_edge-self.ensures.items);
+        live_loops = λ l h. along_live st ready.cycles c.in_ok-e.e.0 l
+            (member_of l h c.loops_of_edge-self.ensures.items);
       };
       same =
-          next_joined (λ (e : Slot). filter test (loops_along st e.0)) c.in_ok-e.e (standing_left st c.edges.self.vert.0 c.edges.self.loops)
-          (standing_left st c.edges.self.vert.0 c.loops_of_edge-self.result) (edges_around_left c.edges.self.edges) (edges_around_left c.next.new.self)
+          next_joined (λ (e : Slot). filter test (loops_along st e.0)) c.in_ok-e.e
+          (standing_left st c.edges.self.vert.0 c.edges.self.loops)
+          (standing_left st c.edges.self.vert.0 c.loops_of_edge-self.result) (edges_around_left c.edges.self.edges)
+          (edges_around_left c.next.new.self)
           c.in_default.ensures.gives.0 c.in_ok-e.ensures.steps (ap (filter test) c.loops_of_edge-self.ensures.items)
           ∙ c.edges.invariant.same;
     }

@@ -7,20 +7,24 @@ use Rattle.mesh_cycles.proofs.rising.FacesRisingIterator.next.Goals as goal
 
 pub returns-in_err-slot-clause-steps : goal.returns-in_err-slot-clause-steps
 returns-in_err-slot-clause-steps c =
-    yields_none faces_rising_left c.args.self.now c.from_residual.result (cc) (none_by_name c.args.self.now.st.now.faces.names c.args.self.now.from c.in_err-slot.ensures.slot)
+    yields_none faces_rising_left c.args.self.now c.from_residual.result (cc)
+    (none_by_name c.args.self.now.st.now.faces.names c.args.self.now.from c.in_err-slot.ensures.slot)
 
 pub face_number-requires : goal.face_number-requires
-face_number-requires c = first_live c.in_ok-slot.ensures.named c.args.self.now.from c.in_ok-slot.slot c.in_ok-slot.ensures.slot
+face_number-requires c = first_live c.in_ok-slot.ensures.named c.args.self.now.from c.in_ok-slot.slot
+    c.in_ok-slot.ensures.slot
 
 pub returns-clause-steps : goal.returns-clause-steps
 returns-clause-steps c =
     let st = c.args.self.now.st.now in
-    next_by_name (λ (x : FaceCell). x.number) st.faces.cells st.faces.names c.args.self.now.from c.in_ok-slot.slot c.face_number.result
+    next_by_name (λ (x : FaceCell). x.number) st.faces.cells st.faces.names c.args.self.now.from c.in_ok-slot.slot
+    c.face_number.result
     c.in_ok-slot.ensures.named c.in_ok-slot.ensures.slot c.face_number.ensures
 
 pub returns-clause-goes : goal.returns-clause-goes
 returns-clause-goes c =
     let st = c.args.self.now.st.now in
-    let step = next_by_name (λ (x : FaceCell). x.number) st.faces.cells st.faces.names c.args.self.now.from c.in_ok-slot.slot c.face_number.result
+    let step = next_by_name (λ (x : FaceCell). x.number) st.faces.cells st.faces.names c.args.self.now.from
+    c.in_ok-slot.slot c.face_number.result
     c.in_ok-slot.ensures.named c.in_ok-slot.ensures.slot c.face_number.ensures in
     record { on = λ h. (tt, tt, (let n = ap length step in omega arith)); keeps = tt; rests = λ h. tt }

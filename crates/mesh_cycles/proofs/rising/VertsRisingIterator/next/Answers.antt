@@ -7,20 +7,24 @@ use Rattle.mesh_cycles.proofs.rising.VertsRisingIterator.next.Goals as goal
 
 pub returns-in_err-slot-clause-steps : goal.returns-in_err-slot-clause-steps
 returns-in_err-slot-clause-steps c =
-    yields_none verts_rising_left c.args.self.now c.from_residual.result (cc) (none_by_name c.args.self.now.st.now.verts.names c.args.self.now.from c.in_err-slot.ensures.slot)
+    yields_none verts_rising_left c.args.self.now c.from_residual.result (cc)
+    (none_by_name c.args.self.now.st.now.verts.names c.args.self.now.from c.in_err-slot.ensures.slot)
 
 pub vert_number-requires : goal.vert_number-requires
-vert_number-requires c = first_live c.in_ok-slot.ensures.named c.args.self.now.from c.in_ok-slot.slot c.in_ok-slot.ensures.slot
+vert_number-requires c = first_live c.in_ok-slot.ensures.named c.args.self.now.from c.in_ok-slot.slot
+    c.in_ok-slot.ensures.slot
 
 pub returns-clause-steps : goal.returns-clause-steps
 returns-clause-steps c =
     let st = c.args.self.now.st.now in
-    next_by_name (λ (x : VertCell). x.number) st.verts.cells st.verts.names c.args.self.now.from c.in_ok-slot.slot c.vert_number.result
+    next_by_name (λ (x : VertCell). x.number) st.verts.cells st.verts.names c.args.self.now.from c.in_ok-slot.slot
+    c.vert_number.result
     c.in_ok-slot.ensures.named c.in_ok-slot.ensures.slot c.vert_number.ensures
 
 pub returns-clause-goes : goal.returns-clause-goes
 returns-clause-goes c =
     let st = c.args.self.now.st.now in
-    let step = next_by_name (λ (x : VertCell). x.number) st.verts.cells st.verts.names c.args.self.now.from c.in_ok-slot.slot c.vert_number.result
+    let step = next_by_name (λ (x : VertCell). x.number) st.verts.cells st.verts.names c.args.self.now.from
+    c.in_ok-slot.slot c.vert_number.result
     c.in_ok-slot.ensures.named c.in_ok-slot.ensures.slot c.vert_number.ensures in
     record { on = λ h. (tt, tt, (let n = ap length step in omega arith)); keeps = tt; rests = λ h. tt }

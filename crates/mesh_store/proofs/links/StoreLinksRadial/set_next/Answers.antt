@@ -5,6 +5,13 @@ use Rattle.mesh_store.proofs.links.StoreLinksRadial.set_next.Goals as goal
 
 pub returns-clause-rest : goal.returns-clause-rest
 returns-clause-rest c =
-    let st : Stored = record { verts = c.self.inside.verts; edges = c.self.inside.edges; loops = c.self.inside.loops; faces = c.self.inside.faces; values = c.self.inside.values } in
-    radials_beside st c.args.r.0.0 c.get_mut-corner.result.now (record c.get_mut-corner.result.now { radial_next = c.args.to }) c.get_mut-corner.ensures.value refl
+    let st : Stored = record {
+      verts = c.self.inside.verts;
+      edges = c.self.inside.edges;
+      loops = c.self.inside.loops;
+      faces = c.self.inside.faces;
+      values = c.self.inside.values;
+    } in
+    radials_beside st c.args.r.0.0 c.get_mut-corner.result.now
+    (record c.get_mut-corner.result.now { radial_next = c.args.to }) c.get_mut-corner.ensures.value refl
     ∙ ap beside_radials c.self.view_is

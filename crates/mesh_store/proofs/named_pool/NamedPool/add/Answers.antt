@@ -16,5 +16,7 @@ invariant_of-self g c =
     let unnamed : at names (number c.args.cell) ≡ None = subst N (sym c.self.view_is) c.requires.unnamed in
     let reach : number c.args.cell < length names = subst R (sym c.self.view_is) c.requires.reach in
     rw c.put-slot.ensures.gains
-    (added number c.self.inside.pool names c.self.inside.marks.words.items c.set.new.self.words.items c.self.invariant c.set.ensures.len
-    c.put-slot.result c.args.cell n is c.put-slot.ensures.vacant.1 c.put-slot.ensures.vacant.0 (rw (← is) unnamed) (rw (← is) reach) c.set.ensures.tags)
+    (added number c.self.inside.pool names c.self.inside.marks.words.items c.set.new.self.words.items c.self.invariant
+    c.set.ensures.len
+    c.put-slot.result c.args.cell n is c.put-slot.ensures.vacant.1 c.put-slot.ensures.vacant.0 (rw (← is) unnamed)
+    (rw (← is) reach) c.set.ensures.tags)

@@ -15,5 +15,7 @@ invariant_of-self g c =
     let unnamed : at names c.args.number ≡ None = subst N (sym c.self.view_is) c.requires.unnamed in
     let reach : c.args.number < length names = subst R (sym c.self.view_is) c.requires.reach in
     rw x.2
-    (added number c.self.inside.pool names c.self.inside.marks.words.items c.set.new.self.words.items c.self.invariant c.set.ensures.len
-    c.put_with-slot.result x.0 c.args.number (c.requires.numbered c.put_with-slot.result x.0 x.1) c.put_with-slot.ensures.vacant.1 c.put_with-slot.ensures.vacant.0 unnamed reach c.set.ensures.tags)
+    (added number c.self.inside.pool names c.self.inside.marks.words.items c.set.new.self.words.items c.self.invariant
+    c.set.ensures.len
+    c.put_with-slot.result x.0 c.args.number (c.requires.numbered c.put_with-slot.result x.0 x.1)
+    c.put_with-slot.ensures.vacant.1 c.put_with-slot.ensures.vacant.0 unnamed reach c.set.ensures.tags)

@@ -1,0 +1,5 @@
+use Rattle.kernel_tests.specs.Sound.{IsSound}
+use Rattle.kernel_tests.proofs.cycles.sample.add_faces.Given as goal
+
+abbrev pub invariant-loop-name : goal.invariant-loop-name
+invariant-loop-name g l = IsSound l.st

@@ -1,0 +1,7 @@
+use Rattle.std.proofs.Common.{◌∙◌, sym}
+use Rattle.mesh_store.proofs.Names.{named_live}
+use Rattle.kernel_tests.proofs.named.face.Goals as goal
+
+pub returns : goal.returns
+returns g c = named_live c.face_slot.ensures.named c.args.name c.given.result
+    (sym c.given.ensures ∙ c.face_slot.ensures.slot)
