@@ -11,7 +11,9 @@ use Rattle.mesh_trail.proofs.Growth.{AreApart, get-absent}
 pub len-names_of : {R : Type 0} (es : List (Entry R)) → AreApart es → len (names_of es) ≡ length es
 len-names_of {R = R} [] apart = len-empty nat_cmp (Option R)
 len-names_of {R = R} (e ∷ es) apart =
-    let rest = len-names_of es (λ j k d f at_j at_k same. let no = apart (suc j) (suc k) d f at_j at_k same in omega arith) in
+    let rest = len-names_of es (λ j k d f at_j at_k same. let no =
+    apart (suc j) (suc k) d f at_j at_k same in omega arith) in
     len-insert nat_cmp_total (names_of es) e.name e.was
-    ∙ ap (λ (o : Option (Option R)). cond (is_some o) (len (names_of es)) (len (names_of es) + 1)) (get-absent es e.name (λ i f at_i same. let no = apart (suc i) 0 f e at_i refl same in absurd (omega arith)))
+    ∙ ap (λ (o : Option (Option R)). cond (is_some o) (len (names_of es)) (len (names_of es) + 1))
+    (get-absent es e.name (λ i f at_i same. let no = apart (suc i) 0 f e at_i refl same in absurd (omega arith)))
     ∙ (omega arith)

@@ -1,9 +1,11 @@
 pub mod Trees
 pub mod Growth
+pub mod Rising
 pub mod Sorting
 pub mod Trims
 pub mod Least
 pub mod MapNotes
+pub mod Copying
 pub mod Tables
 pub mod Rooms
 pub mod Copies

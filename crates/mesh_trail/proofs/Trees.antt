@@ -14,27 +14,41 @@ path_start {R = R} es name some tree = record {
 }
 
 -- an entry of another name is passed by
-pub next_on : {R : Type 0} (es : List (Entry R)) (bits i j : ℕ) → i ≢ j → IsReached es bits i j → (link_at es i bits ≢ 0) × IsReached es (bits / 2) (link_at es i bits) j
+pub next_on : {R : Type 0} (es : List (Entry R)) (bits i j : ℕ) → i ≢ j → IsReached es bits i j
+    → (link_at es i bits ≢ 0) × IsReached es (bits / 2) (link_at es i bits) j
 next_on es bits i j off (zero, e) = absurd (off e)
 next_on es bits i j off (suc d, on) = (on.0, (d, on.1))
 
-pub same_entry : {R : Type 0} (es : List (Entry R)) (at : ℕ) (e f : Entry R) → slice_get es at ≡ Some e → slice_get es at ≡ Some f → f.name ≡ e.name
-same_entry {R = R} es at e f p q = let named : Option (Entry R) → ℕ = λ o. elim o [ None ↦ 0 | Some x ↦ x.name ] in ap named (sym q ∙ p)
+pub same_entry : {R : Type 0} (es : List (Entry R)) (at : ℕ) (e f : Entry R) → slice_get es at ≡ Some e
+    → slice_get es at ≡ Some f → f.name ≡ e.name
+same_entry {R = R} es at e f p q = let named : Option (Entry R)
+    → ℕ = λ o. elim o [ None ↦ 0 | Some x ↦ x.name ] in ap named (sym q ∙ p)
 
 -- an entry that an index reads
-pub entry_read : {R : Type 0} (es : List (Entry R)) (at : ℕ) (e : Entry R) → at < length es → e ≡ get_or es at e → slice_get es at ≡ Some e
+pub entry_read : {R : Type 0} (es : List (Entry R)) (at : ℕ) (e : Entry R) → at < length es → e ≡ get_or es at e
+    → slice_get es at ≡ Some e
 entry_read es at e less is = slice_get-get_or es at e less ∙ ap (λ x. Some x) (sym is)
 
 -- the step to the next entry
-pub path_step : {R : Type 0} (es : List (Entry R)) (name at bits : ℕ) (e : Entry R) → IsTree es → slice_get es at ≡ Some e → e.name ≢ name → link_at es at bits ≢ 0 → IsOnPath es name at bits → IsOnPath es name (link_at es at bits) (bits / 2)
+pub path_step : {R : Type 0} (es : List (Entry R)) (name at bits : ℕ) (e : Entry R) → IsTree es
+    → slice_get es at ≡ Some e → e.name ≢ name → link_at es at bits ≢ 0 → IsOnPath es name at bits
+    → IsOnPath es name (link_at es at bits) (bits / 2)
 path_step {R = R} es name at bits e tree at_e other linked on = record {
   within = (tree.up at bits linked).1;
-  near = λ j f at_j same. (next_on es bits at j (λ is. other (sym (same_entry es at e f at_e (ap (slice_get es) is ∙ at_j)) ∙ same)) (on.near j f at_j same)).1;
-  path = λ later keeps j (d, reached). on.path later keeps j (suc d, (λ e. linked (sym (keeps at bits linked) ∙ e), subst (λ (k : ℕ). Leads d later (bits / 2) k j) (sym (keeps at bits linked)) reached));
+  near = λ j f at_j same. (next_on es bits at j (λ is.
+      other (sym (same_entry es at e f at_e (ap (slice_get es) is ∙ at_j)) ∙ same)) (on.near j f at_j same)).1;
+  path = λ later keeps j (d, reached). on.path later keeps j (
+    suc d,
+    (
+      λ e. linked (sym (keeps at bits linked) ∙ e),
+      subst (λ (k : ℕ). Leads d later (bits / 2) k j) (sym (keeps at bits linked)) reached,
+    ),
+  );
 }
 
 -- the walk ends at a free link
-pub path_end : {R : Type 0} (es : List (Entry R)) (name at bits : ℕ) (e : Entry R) → slice_get es at ≡ Some e → e.name ≢ name → link_at es at bits ≡ 0 → IsOnPath es name at bits → IsFree es name at bits
+pub path_end : {R : Type 0} (es : List (Entry R)) (name at bits : ℕ) (e : Entry R) → slice_get es at ≡ Some e
+    → e.name ≢ name → link_at es at bits ≡ 0 → IsOnPath es name at bits → IsFree es name at bits
 path_end {R = R} es name at bits e at_e other free on = record {
   within = on.within;
   free = free;

@@ -4,7 +4,6 @@ use Rattle.std.specs.declared.option.Option.{Option}
 use Rattle.std.specs.declared.option.Option.TheVariants.{None, Some}
 use Rattle.std.specs.Coded.{Coded, code_by, coded×, coded_ℕ, coded_ℤ, coded_list}
 use Rattle.std.specs.FinMap.{get}
-use Rattle.std.specs.Option.{option_map}
 use Rattle.mesh_model.specs.Table.{at}
 use Rattle.mesh_model.specs.Complex.{Complex, width}
 use Rattle.mesh_model.specs.ChangeSetNotes.{Notes, trimmed_notes}
@@ -68,7 +67,8 @@ pub record KeptRows (B : Type 0) : Type 0 where
 
 abbrev pub kept_code : {B : Type 0} → Coded B → Coded (KeptRows B)
 kept_code {B} b =
-    code_by (Notes (B × List ℤ) × (ℕ × ℕ)) (coded× (notes_code (coded× b (coded_list coded_ℤ))) (coded× coded_ℕ coded_ℕ))
+    code_by (Notes (B × List ℤ) × (ℕ × ℕ)) (coded× (notes_code (coded× b (coded_list coded_ℤ)))
+    (coded× coded_ℕ coded_ℕ))
     (λ t. (t.names, (t.width, t.room))) (λ p. record { names = p.0; width = p.1.0; room = p.1.1 }) (λ _. refl)
 
 -- rows lie within the numbers, and what is told of room is there
@@ -76,10 +76,6 @@ pub record IsTable {B : Type 0} (width spare : ℕ) (map : Noted (Kept B)) (coun
   pub within : AreWithin width count map.names
   pub names_room : spare ≤ map.room
   pub values_room : count + spare * width ≤ capacity
-
--- the body of a note, if there is a record
-abbrev pub body_of : {B : Type 0} → Option (Option (B × List ℤ)) → Option (Option B)
-body_of o = option_map (option_map (λ r. r.0)) o
 
 -- ---- RECORDS OF EACH KIND
 
@@ -114,13 +110,15 @@ corner_recs width (k ∷ ks) values = corner_at k (take width values) ∷ corner
 -- ---- TRIMMING
 
 -- notes whose records equal what stands now are taken away, where records are read in some form; no other note changes
-pub record IsTrimmed {A R : Type 0} (read : A → R) (same : R → R → Bool) (now : List (Option R)) (before after : Notes A) : Type 0 where
+pub record IsTrimmed {A R : Type 0} (read : A → R) (same : R → R → Bool) (now : List (Option R))
+    (before after : Notes A) : Type 0 where
   pub notes : map_notes read after ≡ trimmed_notes same (map_notes read before) now
   pub left : (name : ℕ) (k : A) → get after name ≡ Some (Some k) → get before name ≡ Some (Some k)
 
 -- ---- CORNERS AND FACES
 
--- what is seen of a store of corners: them, the width of a row, how many more are stored without memory, and the most that a face may have to be compared
+-- what is seen of a store of corners: them, the width of a row, how many more are stored without memory, and the most
+-- that a face may have to be compared
 pub record KeptCorners : Type 0 where
   pub corners : List CornerRec
   pub width : ℕ
@@ -128,15 +126,19 @@ pub record KeptCorners : Type 0 where
   pub longest : ℕ
 
 abbrev pub corner_code : Coded CornerRec
-corner_code = code_by (ℕ × (ℕ × List ℤ)) (coded× coded_ℕ (coded× coded_ℕ (coded_list coded_ℤ))) (λ k. (k.vert.0, (k.edge.0, k.vals))) (λ p. record { vert = record { 0 = p.0 }; edge = record { 0 = p.1.0 }; vals = p.1.1 }) (λ _. refl)
+corner_code = code_by (ℕ × (ℕ × List ℤ)) (coded× coded_ℕ (coded× coded_ℕ (coded_list coded_ℤ)))
+    (λ k. (k.vert.0, (k.edge.0, k.vals))) (λ p.
+    record { vert = record { 0 = p.0 }; edge = record { 0 = p.1.0 }; vals = p.1.1 }) (λ _. refl)
 
 abbrev pub face_code : Coded FaceRec
-face_code = code_by (List CornerRec × List ℤ) (coded× (coded_list corner_code) (coded_list coded_ℤ)) (λ f. (f.corners, f.vals)) (λ p. record { corners = p.0; vals = p.1 }) (λ _. refl)
+face_code = code_by (List CornerRec × List ℤ) (coded× (coded_list corner_code) (coded_list coded_ℤ))
+    (λ f. (f.corners, f.vals)) (λ p. record { corners = p.0; vals = p.1 }) (λ _. refl)
 
 abbrev pub corners_code : Coded KeptCorners
 corners_code =
     code_by (List CornerRec × (ℕ × (ℕ × ℕ))) (coded× (coded_list corner_code) (coded× coded_ℕ (coded× coded_ℕ coded_ℕ)))
-    (λ s. (s.corners, (s.width, (s.room, s.longest)))) (λ p. record { corners = p.0; width = p.1.0; room = p.1.1.0; longest = p.1.1.1 }) (λ _. refl)
+    (λ s. (s.corners, (s.width, (s.room, s.longest)))) (λ p.
+    record { corners = p.0; width = p.1.0; room = p.1.1.0; longest = p.1.1.1 }) (λ _. refl)
 
 -- each corner has its row, the buffers hold the longest face, and what is told of room is there
 pub record AreStored (width spare pairs values longest buffer pair_capacity value_capacity : ℕ) : Type 0 where
@@ -156,13 +158,18 @@ pub record KeptFaces : Type 0 where
 
 abbrev pub faces_code : Coded KeptFaces
 faces_code =
-    code_by (Notes FaceRec × (ℕ × (ℕ × (ℕ × ℕ)))) (coded× (notes_code face_code) (coded× coded_ℕ (coded× coded_ℕ (coded× coded_ℕ coded_ℕ))))
-    (λ f. (f.names, (f.width, (f.corner_width, (f.room, f.corner_room))))) (λ p. record { names = p.0; width = p.1.0; corner_width = p.1.1.0; room = p.1.1.1.0; corner_room = p.1.1.1.1 }) (λ _. refl)
+    code_by (Notes FaceRec × (ℕ × (ℕ × (ℕ × ℕ)))) (coded× (notes_code face_code)
+    (coded× coded_ℕ (coded× coded_ℕ (coded× coded_ℕ coded_ℕ))))
+    (λ f. (f.names, (f.width, (f.corner_width, (f.room, f.corner_room)))))
+    (λ p. record { names = p.0; width = p.1.0; corner_width = p.1.1.0; room = p.1.1.1.0; corner_room = p.1.1.1.1 })
+    (λ _. refl)
 
 -- the corners of each noted face are stored, and there are at most as many as a buffer takes
 abbrev pub AreSpans : ℕ → ℕ → Notes (Span × List ℤ) → Type 0
-AreSpans count longest notes = (name : ℕ) (r : Span × List ℤ) → get notes name ≡ Some (Some r) → (r.0.from + r.0.count ≤ count) × (r.0.count ≤ longest)
+AreSpans count longest notes = (name : ℕ) (r : Span × List ℤ) → get notes name ≡ Some (Some r)
+    → (r.0.from + r.0.count ≤ count) × (r.0.count ≤ longest)
 
 -- the same of kept records
 abbrev pub AreKeptSpans : ℕ → ℕ → Notes (Kept Span) → Type 0
-AreKeptSpans count longest notes = (name : ℕ) (k : Kept Span) → get notes name ≡ Some (Some k) → (k.body.from + k.body.count ≤ count) × (k.body.count ≤ longest)
+AreKeptSpans count longest notes = (name : ℕ) (k : Kept Span) → get notes name ≡ Some (Some k)
+    → (k.body.from + k.body.count ≤ count) × (k.body.count ≤ longest)

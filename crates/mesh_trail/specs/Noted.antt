@@ -17,7 +17,8 @@ notes_code r = code coded_ℕ (coded_option r)
 
 abbrev pub noted_code : {R : Type 0} → Coded R → Coded (Noted R)
 noted_code {R} r =
-    code_by (Notes R × ℕ) (coded× (notes_code r) coded_ℕ) (λ n. (n.names, n.room)) (λ p. record { names = p.0; room = p.1 }) (λ _. refl)
+    code_by (Notes R × ℕ) (coded× (notes_code r) coded_ℕ) (λ n. (n.names, n.room))
+    (λ p. record { names = p.0; room = p.1 }) (λ _. refl)
 
 -- the same names, each record read in another form
 abbrev pub map_notes : {A B : Type 0} → (A → B) → Notes A → Notes B

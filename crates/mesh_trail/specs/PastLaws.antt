@@ -32,11 +32,14 @@ abbrev pub NoteLeads : Type 0
 NoteLeads = (past : ChangeSet) (now : Complex) (x : Elem) → leads (with_note past now x) now ≡ leads past now
 
 abbrev pub NoteStaysWhole : Type 0
-NoteStaysWhole = (past : ChangeSet) (now : Complex) (x : Elem) → IsWholePast past now → IsWholePast (with_note past now x) now
+NoteStaysWhole = (past : ChangeSet) (now : Complex) (x : Elem) → IsWholePast past now
+    → IsWholePast (with_note past now x) now
 
 -- changes at noted names leave where a past leads, and a whole past whole
 abbrev pub ChangeLeads : Type 0
-ChangeLeads = (past : ChangeSet) (now later : Complex) → DifferAtNotes past now later → leads past later ≡ leads past now
+ChangeLeads = (past : ChangeSet) (now later : Complex) → DifferAtNotes past now later
+    → leads past later ≡ leads past now
 
 abbrev pub ChangeStaysWhole : Type 0
-ChangeStaysWhole = (past : ChangeSet) (now later : Complex) → DifferAtNotes past now later → IsWholePast past now → IsWholePast past later
+ChangeStaysWhole = (past : ChangeSet) (now later : Complex) → DifferAtNotes past now later → IsWholePast past now
+    → IsWholePast past later

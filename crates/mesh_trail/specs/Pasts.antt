@@ -37,12 +37,23 @@ widths_of c = record { verts = width c Verts; edges = width c Edges; corners = w
 abbrev pub no_changes : Complex → ChangeSet
 no_changes c = record { verts = empty; edges = empty; faces = empty; next = next_of c }
 
+-- no more of any kind
+abbrev pub no_room : ByKind
+no_room = record { verts = 0; edges = 0; corners = 0; faces = 0 }
+
 -- no number is more than another one of its kind
 pub record IsAtMost (few many : ByKind) : Type 0 where
   pub verts : few.verts ≤ many.verts
   pub edges : few.edges ≤ many.edges
   pub corners : few.corners ≤ many.corners
   pub faces : few.faces ≤ many.faces
+
+-- the number of a kind
+abbrev pub number_of : ByKind → Kind → ℕ
+number_of n Verts = n.verts
+number_of n Edges = n.edges
+number_of n Corners = n.corners
+number_of n Faces = n.faces
 
 -- how many notes of a kind there are
 abbrev pub count_of : ChangeSet → Kind → ℕ
@@ -66,24 +77,34 @@ was_absent p (Face f) = is_absent (get p.faces f.0)
 -- ---- CODES
 
 abbrev pub point_code : Coded Point
-point_code = code_by (ℤ × (ℤ × ℤ)) (coded× coded_ℤ (coded× coded_ℤ coded_ℤ)) (λ p. (p.x, (p.y, p.z))) (λ t. record { x = t.0; y = t.1.0; z = t.1.1 }) (λ _. refl)
+point_code = code_by (ℤ × (ℤ × ℤ)) (coded× coded_ℤ (coded× coded_ℤ coded_ℤ)) (λ p. (p.x, (p.y, p.z)))
+    (λ t. record { x = t.0; y = t.1.0; z = t.1.1 }) (λ _. refl)
 
 abbrev pub vert_code : Coded VertRec
-vert_code = code_by (Point × List ℤ) (coded× point_code (coded_list coded_ℤ)) (λ r. (r.point, r.vals)) (λ t. record { point = t.0; vals = t.1 }) (λ _. refl)
+vert_code = code_by (Point × List ℤ) (coded× point_code (coded_list coded_ℤ)) (λ r. (r.point, r.vals))
+    (λ t. record { point = t.0; vals = t.1 }) (λ _. refl)
 
 abbrev pub edge_code : Coded EdgeRec
-edge_code = code_by (ℕ × (ℕ × List ℤ)) (coded× coded_ℕ (coded× coded_ℕ (coded_list coded_ℤ))) (λ r. (r.a.0, (r.b.0, r.vals))) (λ t. record { a = record { 0 = t.0 }; b = record { 0 = t.1.0 }; vals = t.1.1 }) (λ _. refl)
+edge_code = code_by (ℕ × (ℕ × List ℤ)) (coded× coded_ℕ (coded× coded_ℕ (coded_list coded_ℤ)))
+    (λ r. (r.a.0, (r.b.0, r.vals))) (λ t. record { a = record { 0 = t.0 }; b = record { 0 = t.1.0 }; vals = t.1.1 })
+    (λ _. refl)
 
 abbrev pub kinds_code : Coded ByKind
-kinds_code = code_by (ℕ × (ℕ × (ℕ × ℕ))) (coded× coded_ℕ (coded× coded_ℕ (coded× coded_ℕ coded_ℕ))) (λ n. (n.verts, (n.edges, (n.corners, n.faces)))) (λ t. record { verts = t.0; edges = t.1.0; corners = t.1.1.0; faces = t.1.1.1 }) (λ _. refl)
+kinds_code = code_by (ℕ × (ℕ × (ℕ × ℕ))) (coded× coded_ℕ (coded× coded_ℕ (coded× coded_ℕ coded_ℕ)))
+    (λ n. (n.verts, (n.edges, (n.corners, n.faces)))) (λ t.
+    record { verts = t.0; edges = t.1.0; corners = t.1.1.0; faces = t.1.1.1 }) (λ _. refl)
 
 abbrev pub next_code : Coded NextNames
-next_code = code_by (ℕ × (ℕ × ℕ)) (coded× coded_ℕ (coded× coded_ℕ coded_ℕ)) (λ n. (n.verts, (n.edges, n.faces))) (λ t. record { verts = t.0; edges = t.1.0; faces = t.1.1 }) (λ _. refl)
+next_code = code_by (ℕ × (ℕ × ℕ)) (coded× coded_ℕ (coded× coded_ℕ coded_ℕ)) (λ n. (n.verts, (n.edges, n.faces)))
+    (λ t. record { verts = t.0; edges = t.1.0; faces = t.1.1 }) (λ _. refl)
 
 abbrev pub changes_code : Coded ChangeSet
 changes_code =
-    code_by (Notes VertRec × (Notes EdgeRec × (Notes FaceRec × NextNames))) (coded× (notes_code vert_code) (coded× (notes_code edge_code) (coded× (notes_code face_code) next_code)))
-    (λ c. (c.verts, (c.edges, (c.faces, c.next)))) (λ t. record { verts = t.0; edges = t.1.0; faces = t.1.1.0; next = t.1.1.1 }) (λ _. refl)
+    code_by (Notes VertRec × (Notes EdgeRec × (Notes FaceRec × NextNames)))
+    (coded× (notes_code vert_code) (coded× (notes_code edge_code) (coded× (notes_code face_code) next_code)))
+    (λ c. (c.verts, (c.edges, (c.faces, c.next)))) (λ t.
+    record { verts = t.0; edges = t.1.0; faces = t.1.1.0; next = t.1.1.1 }) (λ _. refl)
 
 abbrev pub past_code : Coded NotedPast
-past_code = code_by (ChangeSet × (ByKind × ByKind)) (coded× changes_code (coded× kinds_code kinds_code)) (λ p. (p.changes, (p.widths, p.room))) (λ t. record { changes = t.0; widths = t.1.0; room = t.1.1 }) (λ _. refl)
+past_code = code_by (ChangeSet × (ByKind × ByKind)) (coded× changes_code (coded× kinds_code kinds_code))
+    (λ p. (p.changes, (p.widths, p.room))) (λ t. record { changes = t.0; widths = t.1.0; room = t.1.1 }) (λ _. refl)

@@ -1,5 +1,7 @@
--- Entries in the order of noting, as a search tree by the bits of names, the lowest first. Entry 0 is its root, and a link 0 leads nowhere.
-use Rattle.std.specs.Prelude.{◌≡◌, ◌≢◌, ℕ, zero, suc, ◌<◌, ◌≤◌, true, is_some, nat_lt, min, ◌/◌, ◌%◌, ◌==◌, if◌then◌else◌, List, map, length, slice_get}
+-- Entries in the order of noting, as a search tree by the bits of names, the lowest first. Entry 0 is its root, and a
+-- link 0 leads nowhere.
+use Rattle.std.specs.Prelude.{◌≡◌, ◌≢◌, ℕ, zero, suc, ◌<◌, ◌≤◌, Bool, true, false, is_some, nat_lt, min, ◌/◌, ◌%◌, ◌==◌, if◌then◌else◌, List, [], ◌∷◌, ◌++◌, map, length, take, slice_get}
+use Rattle.std.specs.List.Sorted.{IsNonDecreasingBy}
 use Rattle.std.specs.declared.option.Option.{Option}
 use Rattle.std.specs.declared.option.Option.TheVariants.{None, Some}
 use Rattle.std.specs.FinMap.{get, from_entries}
@@ -14,6 +16,11 @@ pair_of e = (e.name, e.was)
 
 abbrev pub pairs : {R : Type 0} → List (Entry R) → List (ℕ × Option R)
 pairs es = map pair_of es
+
+-- a pair behind the others, where its name has none
+abbrev pub with_pair : {R : Type 0} → Bool → List (ℕ × Option R) → ℕ → Option R → List (ℕ × Option R)
+with_pair true ps name was = ps
+with_pair false ps name was = ps ++ (name, was) ∷ []
 
 -- the link that some bits follow
 abbrev pub link : {R : Type 0} → Option (Entry R) → ℕ → ℕ
@@ -50,7 +57,8 @@ pub record IsFree {R : Type 0} (es : List (Entry R)) (name at bits : ℕ) : Type
   pub within : at < length es
   pub free : link_at es at bits ≡ 0
   pub absent : IsAbsent es name
-  pub path : (later : List (Entry R)) → KeepsLinks es later → (j : ℕ) → IsReached later bits at j → IsReached later name 0 j
+  pub path : (later : List (Entry R)) → KeepsLinks es later → (j : ℕ) → IsReached later bits at j
+      → IsReached later name 0 j
 
 -- the entry of a name, or the free link where it would hang
 abbrev pub IsSpot : {R : Type 0} → List (Entry R) → ℕ → Spot → Type 0
@@ -61,7 +69,8 @@ IsSpot es name (Free at bits) = IsFree es name at bits
 pub record IsOnPath {R : Type 0} (es : List (Entry R)) (name at bits : ℕ) : Type 0 where
   pub within : at < length es
   pub near : (j : ℕ) (e : Entry R) → slice_get es j ≡ Some e → e.name ≡ name → IsReached es bits at j
-  pub path : (later : List (Entry R)) → KeepsLinks es later → (j : ℕ) → IsReached later bits at j → IsReached later name 0 j
+  pub path : (later : List (Entry R)) → KeepsLinks es later → (j : ℕ) → IsReached later bits at j
+      → IsReached later name 0 j
 
 -- an entry with another link
 abbrev pub with_link : {R : Type 0} → Entry R → ℕ → ℕ → Entry R
@@ -71,10 +80,23 @@ with_link e bits to = if bits % 2 == 0 then record e { even = to } else record e
 abbrev pub names_of : {R : Type 0} → List (Entry R) → Notes R
 names_of es = from_entries (pairs es)
 
--- the entries are a tree, and their positions fit the links
-pub record AreNoted {R : Type 0} (es : List (Entry R)) (count : ℕ) : Type 0 where
+-- the entries are a tree, their positions fit the links, and the names of the first few rise
+pub record AreNoted {R : Type 0} (es : List (Entry R)) (count rising : ℕ) : Type 0 where
   pub tree : IsTree es
   pub few : count ≤ 4294967295
+  pub within : rising ≤ count
+  pub ordered : IsNonDecreasingBy (λ x. x.0) (take rising (pairs es))
+
+-- the names rise, and none is above this one
+pub record IsBehind {R : Type 0} (ps : List (ℕ × Option R)) (name : ℕ) : Type 0 where
+  pub ordered : IsNonDecreasingBy (λ x. x.0) ps
+  pub last : (i : ℕ) (x : ℕ × Option R) → slice_get ps i ≡ Some x → x.0 ≤ name
+
+-- in a front the names of the first few are below a number, and the others aren't
+pub record IsFirstFrom {R : Type 0} (es : List (Entry R)) (front least at : ℕ) : Type 0 where
+  pub within : at ≤ front
+  pub below : (i : ℕ) (e : Entry R) → i < at → slice_get es i ≡ Some e → e.name < least
+  pub from : (i : ℕ) (e : Entry R) → at ≤ i → i < front → slice_get es i ≡ Some e → least ≤ e.name
 
 -- the least noted name from a number on
 pub record IsLeastFrom {R : Type 0} (names : Notes R) (least name : ℕ) : Type 0 where

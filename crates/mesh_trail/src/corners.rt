@@ -33,9 +33,15 @@ impl Model for CornerStore {
 
     ghost coded = { corners_code };
 
-    ghost view = { λ s. record { corners = corner_recs s.width s.pairs.items s.values.items; width = s.width; room = s.spare; longest = length s.pair_buffer.items } };
+    ghost view = { λ s. record {
+      corners = corner_recs s.width s.pairs.items s.values.items;
+      width = s.width;
+      room = s.spare;
+      longest = length s.pair_buffer.items;
+    } };
 
-    ghost invariant = { λ s. AreStored s.width s.spare (vec_len s.pairs) (vec_len s.values) (length s.pair_buffer.items) (length s.value_buffer.items) (vec_capacity s.pairs) (vec_capacity s.values) };
+    ghost invariant = { λ s. AreStored s.width s.spare (vec_len s.pairs) (vec_len s.values) (length s.pair_buffer.items)
+        (length s.value_buffer.items) (vec_capacity s.pairs) (vec_capacity s.values) };
 }
 
 impl CornerStore {
@@ -112,12 +118,79 @@ impl CornerStore {
         self.spare
     }
 
+    // The width of a row.
+    pub(crate) fn width(&self) -> usize
+        ensures { result ≡ self.now.width }
+    {
+        self.width
+    }
+
+    // Tells of less room.
+    pub(crate) fn lessen(&mut self, room: usize)
+        requires { room ≤ self.old.room }
+        ensures { self.new ≡ record self.old { room = room } }
+    {
+        self.spare = room;
+    }
+
+    // Takes away each corner, and has rows of a width from then on. Takes no memory, and keeps what there is.
+    pub(crate) fn restart(&mut self, width: usize)
+        ensures corners { self.new.corners ≡ [] }
+        ensures width { self.new.width ≡ width }
+        ensures room { self.old.width ≡ width → self.new.room ≡ self.old.room }
+    {
+        if self.width != width {
+            self.spare = 0;
+            self.pair_buffer.clear();
+        }
+        self.width = width;
+        self.pairs.clear();
+        self.values.clear();
+    }
+
+    // Gives back the memory that isn't used, after which no corner surely takes none.
+    pub(crate) fn shrink(&mut self)
+        ensures corners { self.new.corners ≡ self.old.corners }
+        ensures width { self.new.width ≡ self.old.width }
+        ensures longest { self.new.longest ≡ self.old.longest }
+    {
+        self.spare = 0;
+        self.pairs.shrink_to_fit();
+        self.values.shrink_to_fit();
+    }
+
+    // Puts a part of another store's corners at the end.
+    pub(crate) fn append_part(
+        &mut self,
+        other: &CornerStore,
+        from: usize,
+        count: usize,
+    ) -> Result<(), NoMemory>
+        requires within { from + count ≤ length other.now.corners }
+        requires wide { self.old.width ≡ other.now.width }
+        ensures ok { OnOk result (self.new.corners ≡ self.old.corners ++ take count (drop from other.now.corners)) }
+        ensures err { OnErr result (self.new.corners ≡ self.old.corners) }
+        ensures holds { OnOk result (count ≤ self.new.longest) }
+        ensures width { self.new.width ≡ self.old.width }
+        ensures longest { self.old.longest ≤ self.new.longest }
+    {
+        self.widen(count)?;
+        let pairs = &other.pairs[from..from + count];
+        let first = from * self.width;
+        let numbers = count * self.width;
+        let values = &other.values[first..first + numbers];
+        store(&mut self.pairs, pairs, &mut self.values, values)?;
+        self.spare = self.spare.saturating_sub(count);
+        Ok(())
+    }
+
     // Puts the corners of a face at the end.
     pub(crate) fn append<S: Shape>(&mut self, f: FaceName, now: &S) -> Result<(), NoMemory>
         requires there { IsThere (S.complex now.now).faces f.0 }
         requires linked { IsLinked (S.complex now.now) }
         requires wide { self.old.width ≡ width_of (S.complex now.now) Kind.Corners }
-        ensures ok { OnOk result (self.new.corners ≡ self.old.corners ++ corners_of (at (S.complex now.now).faces f.0)) }
+        ensures ok { OnOk result (self.new.corners
+            ≡ self.old.corners ++ corners_of (at (S.complex now.now).faces f.0)) }
         ensures holds { OnOk result (length (corners_of (at (S.complex now.now).faces f.0)) ≤ self.new.longest) }
         ensures err { OnErr result ((self.new.corners ≡ self.old.corners) × (self.new.room ≡ self.old.room)) }
         ensures width { self.new.width ≡ self.old.width }
@@ -160,7 +233,8 @@ impl CornerStore {
         requires within { from + count ≤ length self.old.corners }
         requires holds { count ≤ self.old.longest }
         ensures same { self.new ≡ self.old }
-        ensures result { result ≡ true ↔ (take count (drop from self.old.corners) ≡ corners_of (at (S.complex now.now).faces f.0)) }
+        ensures result { result ≡ true ↔ (take count (drop from self.old.corners)
+            ≡ corners_of (at (S.complex now.now).faces f.0)) }
     {
         if now.corner_count(f) as usize != count {
             return false;
@@ -198,7 +272,8 @@ fn read_pairs<S: Shape>(buffer: &mut Vec<(VertName, EdgeName)>, count: usize, f:
     requires there { IsThere (S.complex now.now).faces f.0 }
     requires count { count ≡ length (corners_of (at (S.complex now.now).faces f.0)) }
     requires room { count ≤ length buffer.old.items }
-    ensures front { take count buffer.new.items ≡ map (λ k. (k.vert, k.edge)) (corners_of (at (S.complex now.now).faces f.0)) }
+    ensures front { take count buffer.new.items
+        ≡ map (λ k. (k.vert, k.edge)) (corners_of (at (S.complex now.now).faces f.0)) }
     ensures len { length buffer.new.items ≡ length buffer.old.items }
 {
     fill_pairs(buffer, count, f, now);
@@ -218,9 +293,11 @@ fn fill_pairs<S: Shape>(buffer: &mut [(VertName, EdgeName)], count: usize, f: Fa
 fn read_rows<S: Shape>(buffer: &mut Vec<i64>, numbers: usize, f: FaceName, now: &S)
     requires there { IsThere (S.complex now.now).faces f.0 }
     requires linked { IsLinked (S.complex now.now) }
-    requires numbers { numbers ≡ length (corners_of (at (S.complex now.now).faces f.0)) * width_of (S.complex now.now) Kind.Corners }
+    requires numbers { numbers ≡ length (corners_of (at (S.complex now.now).faces f.0)) * width_of (S.complex now.now)
+        Kind.Corners }
     requires room { numbers ≤ length buffer.old.items }
-    ensures front { take numbers buffer.new.items ≡ flat_map (λ k. k.vals) (corners_of (at (S.complex now.now).faces f.0)) }
+    ensures front { take numbers buffer.new.items
+        ≡ flat_map (λ k. k.vals) (corners_of (at (S.complex now.now).faces f.0)) }
     ensures len { length buffer.new.items ≡ length buffer.old.items }
 {
     fill_rows(buffer, numbers, f, now);
@@ -229,7 +306,8 @@ fn read_rows<S: Shape>(buffer: &mut Vec<i64>, numbers: usize, f: FaceName, now: 
 // Reads the rows of a face's corners into the front of a slice.
 fn fill_rows<S: Shape>(buffer: &mut [i64], numbers: usize, f: FaceName, now: &S)
     requires there { IsThere (S.complex now.now).faces f.0 }
-    requires numbers { numbers ≡ length (corners_of (at (S.complex now.now).faces f.0)) * width_of (S.complex now.now) Kind.Corners }
+    requires numbers { numbers ≡ length (corners_of (at (S.complex now.now).faces f.0)) * width_of (S.complex now.now)
+        Kind.Corners }
     requires room { numbers ≤ length buffer.old }
     requires linked { IsLinked (S.complex now.now) }
     ensures { take numbers buffer.new ≡ flat_map (λ k. k.vals) (corners_of (at (S.complex now.now).faces f.0)) }
@@ -245,11 +323,13 @@ fn store(
     more_values: &[i64],
 ) -> Result<(), NoMemory>
     ensures pairs { pairs.new.items ≡ (if is_ok result then pairs.old.items ++ more_pairs.now else pairs.old.items) }
-    ensures values { values.new.items ≡ (if is_ok result then values.old.items ++ more_values.now else values.old.items) }
+    ensures values { values.new.items
+        ≡ (if is_ok result then values.old.items ++ more_values.now else values.old.items) }
     ensures pairs_len { OnOk result (vec_len pairs.new ≡ vec_len pairs.old + length more_pairs.now) }
     ensures values_len { OnOk result (vec_len values.new ≡ vec_len values.old + length more_values.now) }
     ensures err { OnErr result ((vec_len pairs.new ≡ vec_len pairs.old) × (vec_len values.new ≡ vec_len values.old)) }
-    ensures succeeds { vec_len pairs.old + length more_pairs.now ≤ vec_capacity pairs.old → vec_len values.old + length more_values.now ≤ vec_capacity values.old → IsOk result }
+    ensures succeeds { vec_len pairs.old + length more_pairs.now ≤ vec_capacity pairs.old
+        → vec_len values.old + length more_values.now ≤ vec_capacity values.old → IsOk result }
     ensures pairs_hold { OnOk result (vec_len pairs.old + length more_pairs.now ≤ vec_capacity pairs.new) }
     ensures values_hold { OnOk result (vec_len values.old + length more_values.now ≤ vec_capacity values.new) }
     ensures pair_room { vec_capacity pairs.old ≤ vec_capacity pairs.new }

@@ -2,6 +2,7 @@
 
 ghost use Rattle.std.specs.Prelude.{◌≡◌, ◌≤◌, ◌<◌, ◌+◌, OnOk, OnErr, IsOk, IfSome, Some, None, length, is_some};
 ghost use Rattle.std.specs.FinMap.{get, insert};
+ghost use Rattle.std.specs.List.Sorted.{IsNonDecreasingBy};
 ghost use Rattle.std.specs.Option.{option_map};
 ghost use Rattle.std.specs.Vec.{vec_len, vec_capacity};
 ghost use Rattle.mesh_model.specs.Table.{at, IsThere};
@@ -11,7 +12,7 @@ ghost use Rattle.mesh_model.specs.ChangeSet.{same_edge};
 ghost use Rattle.mesh_model.specs.ChangeSetNotes.{note_between, trimmed_notes};
 ghost use Rattle.mesh_trail.specs.Noted.{map_notes};
 ghost use Rattle.mesh_trail.specs.Kept.{edge_in, edge_of, AreWithin, IsTrimmed};
-ghost use Rattle.mesh_trail.specs.Tree.{IsTree, names_of};
+ghost use Rattle.mesh_trail.specs.Tree.{IsTree, pairs, names_of};
 
 use crate::note_map::{Entry, NoteMap, settle};
 use crate::rows::{EdgeRow, same_row};
@@ -42,7 +43,8 @@ pub(crate) fn note_edge<S: Shape>(
 ) -> Result<(), NoMemory>
     requires none { get table.old.names name.0 ≡ None }
     requires wide { table.old.width ≡ width_of (S.complex now.now) Kind.Edges }
-    ensures ok { OnOk result (map_notes edge_of table.new.names ≡ insert (map_notes edge_of table.old.names) name.0 (at (S.complex now.now).edges name.0)) }
+    ensures ok { OnOk result (map_notes edge_of table.new.names
+        ≡ insert (map_notes edge_of table.old.names) name.0 (at (S.complex now.now).edges name.0)) }
     ensures err { OnErr result (table.new ≡ table.old) }
     ensures width { table.new.width ≡ table.old.width }
     ensures succeeds { 0 < table.old.room → IsOk result }
@@ -68,7 +70,8 @@ fn differs<S: Shape>(
     requires linked { IsLinked (S.complex now.now) }
     requires wide { width ≡ width_of (S.complex now.now) Kind.Edges }
     requires within { IfSome was (λ k. k.row + width ≤ length values.now) }
-    ensures { result ≡ is_some (note_between same_edge (option_map (edge_in width values.now) was) (at (S.complex now.now).edges name)) }
+    ensures { result ≡ is_some (note_between same_edge (option_map (edge_in width values.now) was)
+        (at (S.complex now.now).edges name)) }
 {
     let edge = EdgeName(name);
     let there = now.has(Elem::Edge(edge));
@@ -97,8 +100,10 @@ fn trim_entries<S: Shape>(
     requires linked { IsLinked (S.complex now.now) }
     requires wide { width ≡ width_of (S.complex now.now) Kind.Edges }
     requires within { AreWithin width (length values.now) (names_of entries.old.items) }
-    ensures trimmed { IsTrimmed (edge_in width values.now) same_edge (S.complex now.now).edges (names_of entries.old.items) (names_of entries.new.items) }
+    ensures trimmed { IsTrimmed (edge_in width values.now) same_edge (S.complex now.now).edges
+        (names_of entries.old.items) (names_of entries.new.items) }
     ensures tree { IsTree entries.new.items }
+    ensures rising { IsNonDecreasingBy (λ x. x.0) (pairs entries.new.items) }
     ensures len { vec_len entries.new ≤ vec_len entries.old }
     ensures capacity { vec_capacity entries.new ≡ vec_capacity entries.old }
 {
@@ -119,16 +124,19 @@ fn trim_map<S: Shape>(map: &mut NoteMap<Kept<Ends>>, values: &[i64], width: usiz
     requires linked { IsLinked (S.complex now.now) }
     requires wide { width ≡ width_of (S.complex now.now) Kind.Edges }
     requires within { AreWithin width (length values.now) map.old.names }
-    ensures trimmed { IsTrimmed (edge_in width values.now) same_edge (S.complex now.now).edges map.old.names map.new.names }
+    ensures trimmed { IsTrimmed (edge_in width values.now) same_edge (S.complex now.now).edges map.old.names
+        map.new.names }
     ensures room { map.old.room ≤ map.new.room }
 {
     trim_entries(&mut map.entries, values, width, now);
+    map.rising = map.entries.len();
 }
 
 // Takes away each note whose record equals what stands now.
 pub(crate) fn trim_edges<S: Shape>(table: &mut Table<Ends>, now: &S)
     requires { table.old.width ≡ width_of (S.complex now.now) Kind.Edges }
-    ensures names { map_notes edge_of table.new.names ≡ trimmed_notes same_edge (map_notes edge_of table.old.names) (S.complex now.now).edges }
+    ensures names { map_notes edge_of table.new.names
+        ≡ trimmed_notes same_edge (map_notes edge_of table.old.names) (S.complex now.now).edges }
     ensures width { table.new.width ≡ table.old.width }
     ensures room { table.new.room ≡ table.old.room }
 {

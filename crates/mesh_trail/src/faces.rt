@@ -1,7 +1,8 @@
 //! The faces of a past.
 
-ghost use Rattle.std.specs.Prelude.{◌≡◌, ◌≤◌, ◌<◌, ◌+◌, OnOk, OnErr, IsOk, IsSome, IfSome, Some, None, length, is_some, slice_get};
+ghost use Rattle.std.specs.Prelude.{◌≡◌, ◌≤◌, ◌<◌, ◌+◌, OnOk, OnErr, IsOk, IfOk, IsSome, IfSome, Some, None, length, is_some, slice_get};
 ghost use Rattle.std.specs.FinMap.{get, insert, empty, len};
+ghost use Rattle.std.specs.List.Sorted.{IsNonDecreasingBy};
 ghost use Rattle.std.specs.Option.{option_map};
 ghost use Rattle.mesh_model.specs.Table.{at};
 ghost use Rattle.mesh_model.specs.Complex.{corners_of, width as width_of};
@@ -9,12 +10,12 @@ ghost use Rattle.mesh_model.specs.Valid.{IsLinked};
 ghost use Rattle.mesh_model.specs.ChangeSet.{same_face};
 ghost use Rattle.mesh_model.specs.ChangeSetNotes.{note_between, trimmed_notes};
 ghost use Rattle.std.specs.Vec.{vec_len, vec_capacity};
-ghost use Rattle.mesh_trail.specs.Noted.{noted, is_absent};
+ghost use Rattle.mesh_trail.specs.Noted.{noted, is_absent, map_notes};
 ghost use Rattle.mesh_trail.specs.Kept.{face_in, face_of, AreWithin, AreSpans, AreKeptSpans, IsTrimmed};
-ghost use Rattle.mesh_trail.specs.Tree.{IsLeast, IsTree, names_of};
+ghost use Rattle.mesh_trail.specs.Tree.{IsLeast, IsTree, pairs, names_of};
 
 use crate::corners::CornerStore;
-use crate::note_map::{Entry, NoteMap, settle};
+use crate::note_map::{Entry, NoteMap, entry_at, settle};
 use crate::rows::{FaceRow, same_row};
 use crate::table::{Kept, Table};
 use mesh_model::{EdgeName, Elem, FaceName, Kind, NoMemory, Shape, VertName};
@@ -28,7 +29,8 @@ pub(crate) struct Span {
     pub(crate) count: u32,
 }
 
-// The noted faces, and their corners. Corners of notes that were taken away stay where they were.
+// The noted faces, and their corners. Corners of notes that were taken away stay where they were, until a copy is
+// made.
 #[derive(Drop)]
 pub(crate) struct FaceTable {
     spans: Table<Span>,
@@ -44,7 +46,13 @@ impl Model for FaceTable {
 
     ghost coded = { faces_code };
 
-    ghost view = { λ t. record { names = map_notes (face_of t.corners.corners) t.spans.names; width = t.spans.width; corner_width = t.corners.width; room = t.spans.room; corner_room = t.corners.room } };
+    ghost view = { λ t. record {
+      names = map_notes (face_of t.corners.corners) t.spans.names;
+      width = t.spans.width;
+      corner_width = t.corners.width;
+      room = t.spans.room;
+      corner_room = t.corners.room;
+    } };
 
     ghost invariant = { λ t. AreSpans (length t.corners.corners) t.corners.longest t.spans.names };
 }
@@ -62,9 +70,11 @@ fn differs<S: Shape>(
     requires wide { width ≡ width_of (S.complex now.now) Kind.Faces }
     requires corners_wide { corners.old.width ≡ width_of (S.complex now.now) Kind.Corners }
     requires within { IfSome was (λ k. k.row + width ≤ length values.now) }
-    requires stored { IfSome was (λ k. (k.body.from + k.body.count ≤ length corners.old.corners) × (k.body.count ≤ corners.old.longest)) }
+    requires stored { IfSome was (λ k. (k.body.from + k.body.count ≤ length corners.old.corners)
+        × (k.body.count ≤ corners.old.longest)) }
     ensures same { corners.new ≡ corners.old }
-    ensures result { result ≡ is_some (note_between same_face (option_map (face_in corners.old.corners width values.now) was) (at (S.complex now.now).faces name)) }
+    ensures result { result ≡ is_some (note_between same_face
+        (option_map (face_in corners.old.corners width values.now) was) (at (S.complex now.now).faces name)) }
 {
     let face = FaceName(name);
     let there = now.has(Elem::Face(face));
@@ -95,9 +105,11 @@ fn trim_entries<S: Shape>(
     requires corners_wide { corners.old.width ≡ width_of (S.complex now.now) Kind.Corners }
     requires within { AreWithin width (length values.now) (names_of entries.old.items) }
     requires stored { AreKeptSpans (length corners.old.corners) corners.old.longest (names_of entries.old.items) }
-    ensures trimmed { IsTrimmed (face_in corners.old.corners width values.now) same_face (S.complex now.now).faces (names_of entries.old.items) (names_of entries.new.items) }
+    ensures trimmed { IsTrimmed (face_in corners.old.corners width values.now) same_face (S.complex now.now).faces
+        (names_of entries.old.items) (names_of entries.new.items) }
     ensures corners { corners.new ≡ corners.old }
     ensures tree { IsTree entries.new.items }
+    ensures rising { IsNonDecreasingBy (λ x. x.0) (pairs entries.new.items) }
     ensures len { vec_len entries.new ≤ vec_len entries.old }
     ensures capacity { vec_capacity entries.new ≡ vec_capacity entries.old }
 {
@@ -126,11 +138,13 @@ fn trim_map<S: Shape>(
     requires corners_wide { corners.old.width ≡ width_of (S.complex now.now) Kind.Corners }
     requires within { AreWithin width (length values.now) map.old.names }
     requires stored { AreKeptSpans (length corners.old.corners) corners.old.longest map.old.names }
-    ensures trimmed { IsTrimmed (face_in corners.old.corners width values.now) same_face (S.complex now.now).faces map.old.names map.new.names }
+    ensures trimmed { IsTrimmed (face_in corners.old.corners width values.now) same_face (S.complex now.now).faces
+        map.old.names map.new.names }
     ensures corners { corners.new ≡ corners.old }
     ensures room { map.old.room ≤ map.new.room }
 {
     trim_entries(&mut map.entries, corners, values, width, now);
+    map.rising = map.entries.len();
 }
 
 // Takes away each note whose record equals what stands now.
@@ -138,7 +152,8 @@ fn trim_spans<S: Shape>(table: &mut Table<Span>, corners: &mut CornerStore, now:
     requires wide { table.old.width ≡ width_of (S.complex now.now) Kind.Faces }
     requires corners_wide { corners.old.width ≡ width_of (S.complex now.now) Kind.Corners }
     requires stored { AreSpans (length corners.old.corners) corners.old.longest table.old.names }
-    ensures trimmed { IsTrimmed (face_of corners.old.corners) same_face (S.complex now.now).faces table.old.names table.new.names }
+    ensures trimmed { IsTrimmed (face_of corners.old.corners) same_face (S.complex now.now).faces table.old.names
+        table.new.names }
     ensures corners { corners.new ≡ corners.old }
     ensures width { table.new.width ≡ table.old.width }
     ensures room { table.new.room ≡ table.old.room }
@@ -159,6 +174,102 @@ impl FaceTable {
         FaceTable {
             spans: Table::new(alloc, width),
             corners: CornerStore::new(alloc, corner_width),
+        }
+    }
+
+    // How many more faces and how many more corners surely take no memory.
+    pub(crate) fn room(&self) -> (usize, usize)
+        ensures { result ≡ (self.now.room, self.now.corner_room) }
+    {
+        (self.spans.room(), self.corners.room())
+    }
+
+    // The widths of the rows of faces and of corners.
+    pub(crate) fn widths(&self) -> (usize, usize)
+        ensures { result ≡ (self.now.width, self.now.corner_width) }
+    {
+        (self.spans.width(), self.corners.width())
+    }
+
+    // Tells of less room.
+    pub(crate) fn lessen(&mut self, room: usize, corner_room: usize)
+        requires room { room ≤ self.old.room }
+        requires corner_room { corner_room ≤ self.old.corner_room }
+        ensures { self.new ≡ record self.old { room = room; corner_room = corner_room } }
+    {
+        self.spans.lessen(room);
+        self.corners.lessen(corner_room);
+    }
+
+    // Takes away each note, and has rows of these widths from then on. Takes no memory, and keeps what there is.
+    pub(crate) fn restart(&mut self, width: usize, corner_width: usize)
+        ensures names { self.new.names ≡ empty }
+        ensures width { self.new.width ≡ width }
+        ensures corner_width { self.new.corner_width ≡ corner_width }
+        ensures room { self.old.width ≡ width → self.new.room ≡ self.old.room }
+        ensures corner_room { self.old.corner_width ≡ corner_width → self.new.corner_room ≡ self.old.corner_room }
+    {
+        self.spans.restart(width);
+        self.corners.restart(corner_width);
+    }
+
+    // The same notes and no more memory than they need.
+    pub(crate) fn copy(&self) -> Result<FaceTable, NoMemory>
+        ensures names { IfOk result (λ t. t.names ≡ self.now.names) }
+        ensures width { IfOk result (λ t. t.width ≡ self.now.width) }
+        ensures corner_width { IfOk result (λ t. t.corner_width ≡ self.now.corner_width) }
+    {
+        let (width, corner_width) = self.widths();
+        let mut faces = FaceTable::new(self.spans.allocator(), width, corner_width);
+        copy_spans(&mut faces, &self.spans, &self.corners)?;
+        faces.shrink();
+        Ok(faces)
+    }
+
+    // Gives back the memory that isn't used, after which no note surely takes none.
+    fn shrink(&mut self)
+        ensures names { self.new.names ≡ self.old.names }
+        ensures width { self.new.width ≡ self.old.width }
+        ensures corner_width { self.new.corner_width ≡ self.old.corner_width }
+    {
+        self.spans.shrink();
+        self.corners.shrink();
+    }
+
+    // Notes what a face's name had that has no note, its row and its corners being among these.
+    fn put(
+        &mut self,
+        name: u32,
+        was: Option<Kept<Span>>,
+        values: &[i64],
+        corners: &CornerStore,
+    ) -> Result<(), NoMemory>
+        requires none { get self.old.names name ≡ None }
+        requires wide { corners.now.width ≡ self.old.corner_width }
+        requires within { IfSome was (λ k. k.row + self.old.width ≤ length values.now) }
+        requires stored { IfSome was (λ k. k.body.from + k.body.count ≤ length corners.now.corners) }
+        ensures ok { OnOk result (self.new.names
+            ≡ insert self.old.names name (option_map (face_in corners.now.corners self.old.width values.now) was)) }
+        ensures width { self.new.width ≡ self.old.width }
+        ensures corner_width { self.new.corner_width ≡ self.old.corner_width }
+    {
+        match was {
+            None => {
+                self.spans.note_absent(name)?;
+                Ok(())
+            }
+            Some(kept) => {
+                let count = kept.body.count;
+                let from = self.corners.len();
+                self.corners
+                    .append_part(corners, kept.body.from, count as usize)?;
+                let moved = Kept {
+                    body: Span { from, count },
+                    row: kept.row,
+                };
+                self.spans.put(name, Some(moved), values)?;
+                Ok(())
+            }
         }
     }
 
@@ -186,9 +297,11 @@ impl FaceTable {
         ensures err { OnErr result (self.new ≡ self.old) }
         ensures width { self.new.width ≡ self.old.width }
         ensures corner_width { self.new.corner_width ≡ self.old.corner_width }
-        ensures succeeds { 0 < self.old.room → length (corners_of (at (S.complex now.now).faces name.0)) ≤ self.old.corner_room → IsOk result }
+        ensures succeeds { 0 < self.old.room → length (corners_of (at (S.complex now.now).faces name.0))
+            ≤ self.old.corner_room → IsOk result }
         ensures room { self.old.room ≤ self.new.room + 1 }
-        ensures corner_room { self.old.corner_room ≤ self.new.corner_room + length (corners_of (at (S.complex now.now).faces name.0)) }
+        ensures corner_room { self.old.corner_room
+            ≤ self.new.corner_room + length (corners_of (at (S.complex now.now).faces name.0)) }
     {
         now.counters();
         if !now.has(Elem::Face(name)) {
@@ -266,7 +379,8 @@ impl FaceTable {
     // The vertex and the edge of a noted face's corner.
     pub(crate) fn corner(&self, name: u32, i: u32) -> (VertName, EdgeName)
         requires { i < length (corners_of (noted self.now.names name)) }
-        ensures { option_map (λ k. (k.vert, k.edge)) (slice_get (corners_of (noted self.now.names name)) i) ≡ Some result }
+        ensures { option_map (λ k. (k.vert, k.edge)) (slice_get (corners_of (noted self.now.names name)) i)
+            ≡ Some result }
     {
         match self.spans.body(name) {
             Some(span) => self.corners.pair(span.from, i as usize),
@@ -278,7 +392,8 @@ impl FaceTable {
     pub(crate) fn corner_value(&self, name: u32, i: u32, k: usize) -> i64
         requires there { i < length (corners_of (noted self.now.names name)) }
         requires within { k < self.now.corner_width }
-        ensures { option_map (λ r. slice_get r.vals k) (slice_get (corners_of (noted self.now.names name)) i) ≡ Some (Some result) }
+        ensures { option_map (λ r. slice_get r.vals k) (slice_get (corners_of (noted self.now.names name)) i)
+            ≡ Some (Some result) }
     {
         match self.spans.body(name) {
             Some(span) => self.corners.value(span.from, i as usize, k),
@@ -294,4 +409,66 @@ impl FaceTable {
     {
         self.spans.value(name, k)
     }
+}
+
+// Notes all that entries note, in their order, in a table without a note.
+fn copy_entries(
+    faces: &mut FaceTable,
+    entries: &[Entry<Kept<Span>>],
+    values: &[i64],
+    corners: &CornerStore,
+) -> Result<(), NoMemory>
+    requires empty { faces.old.names ≡ empty }
+    requires wide { corners.now.width ≡ faces.old.corner_width }
+    requires tree { IsTree entries.now }
+    requires within { AreWithin faces.old.width (length values.now) (names_of entries.now) }
+    requires stored { AreKeptSpans (length corners.now.corners) corners.now.longest (names_of entries.now) }
+    ensures names { OnOk result (faces.new.names
+        ≡ map_notes (face_in corners.now.corners faces.old.width values.now) (names_of entries.now)) }
+    ensures width { faces.new.width ≡ faces.old.width }
+    ensures corner_width { faces.new.corner_width ≡ faces.old.corner_width }
+{
+    for k in 0..entries.len() {
+        let e = entry_at(entries, k);
+        faces.put(e.name, e.was, values, corners)?;
+    }
+    Ok(())
+}
+
+// Notes all that a map notes in a table without a note.
+fn copy_map(
+    faces: &mut FaceTable,
+    map: &NoteMap<Kept<Span>>,
+    values: &[i64],
+    corners: &CornerStore,
+) -> Result<(), NoMemory>
+    requires empty { faces.old.names ≡ empty }
+    requires wide { corners.now.width ≡ faces.old.corner_width }
+    requires within { AreWithin faces.old.width (length values.now) map.now.names }
+    requires stored { AreKeptSpans (length corners.now.corners) corners.now.longest map.now.names }
+    ensures names { OnOk result (faces.new.names
+        ≡ map_notes (face_in corners.now.corners faces.old.width values.now) map.now.names) }
+    ensures width { faces.new.width ≡ faces.old.width }
+    ensures corner_width { faces.new.corner_width ≡ faces.old.corner_width }
+{
+    copy_entries(faces, &map.entries, values, corners)?;
+    Ok(())
+}
+
+// Notes all that a table notes in one without a note.
+fn copy_spans(
+    faces: &mut FaceTable,
+    table: &Table<Span>,
+    corners: &CornerStore,
+) -> Result<(), NoMemory>
+    requires empty { faces.old.names ≡ empty }
+    requires wide { faces.old.width ≡ table.now.width }
+    requires corners_wide { corners.now.width ≡ faces.old.corner_width }
+    requires stored { AreSpans (length corners.now.corners) corners.now.longest table.now.names }
+    ensures names { OnOk result (faces.new.names ≡ map_notes (face_of corners.now.corners) table.now.names) }
+    ensures width { faces.new.width ≡ faces.old.width }
+    ensures corner_width { faces.new.corner_width ≡ faces.old.corner_width }
+{
+    copy_map(faces, &table.map, &table.values, corners)?;
+    Ok(())
 }

@@ -1,5 +1,6 @@
-ghost use Rattle.std.specs.Prelude.{◌≡◌, ◌≢◌, ◌<◌, ◌≤◌, ◌+◌, ◌-◌, ◌^◌, ℕ, [], ◌∷◌, ◌++◌, length, slice_get, slice_set, if◌then◌else◌, ◌==◌, ◌%◌, OnOk, OnErr, IfOk, IfSome, Some, None, IsOk, is_some, IsSome, min, take};
-ghost use Rattle.mesh_trail.specs.Tree.{IsTree, IsSpot, link, with_link, pairs, names_of, IsAbsent, IsLeast, nearer_name};
+ghost use Rattle.std.specs.Prelude.{◌≡◌, ◌≢◌, ◌<◌, ◌≤◌, ◌+◌, ◌-◌, ◌^◌, ℕ, [], ◌∷◌, ◌++◌, length, slice_get, slice_set, if◌then◌else◌, ◌==◌, ◌%◌, OnOk, OnErr, IfOk, IfSome, Some, None, IsOk, is_some, IsSome, true, min, take};
+ghost use Rattle.std.specs.List.Sorted.{IsNonDecreasingBy};
+ghost use Rattle.mesh_trail.specs.Tree.{IsTree, IsSpot, link, with_link, pairs, with_pair, names_of, IsAbsent, IsLeast, IsFirstFrom, IsBehind, nearer_name};
 ghost use Rattle.mesh_model.specs.ChangeSetNotes.{with_first_note};
 ghost use Rattle.std.specs.FinMap.{get, empty, len};
 ghost use Rattle.std.specs.Vec.{vec_len, vec_capacity};
@@ -24,6 +25,14 @@ pub(crate) struct Entry<R> {
 pub(crate) enum Spot {
     Here(usize),
     Free(usize, u32),
+}
+
+// The entry at a position.
+pub(crate) fn entry_at<R: Copy>(entries: &[Entry<R>], k: usize) -> Entry<R>
+    requires { k < length entries.now }
+    ensures { slice_get entries.now k ≡ Some result }
+{
+    entries[k]
 }
 
 // The link that some bits follow.
@@ -58,7 +67,8 @@ fn seek<R: Copy>(entries: &[Entry<R>], name: u32) -> Spot
 // Sets the link that some bits follow.
 fn hang<R: Copy>(entries: &mut Vec<Entry<R>>, at: usize, bits: u32, to: u32)
     requires { at < length entries.old.items }
-    ensures items { IfSome (slice_get entries.old.items at) (λ e. entries.new.items ≡ slice_set entries.old.items at (with_link e bits to)) }
+    ensures items { IfSome (slice_get entries.old.items at)
+        (λ e. entries.new.items ≡ slice_set entries.old.items at (with_link e bits to)) }
     ensures len { vec_len entries.new ≡ vec_len entries.old }
     ensures capacity { vec_capacity entries.new ≡ vec_capacity entries.old }
 {
@@ -85,7 +95,10 @@ fn place<R: Copy>(entries: &mut Vec<Entry<R>>, name: u32, was: Option<R>) -> Res
     requires tree { IsTree entries.old.items }
     requires few { vec_len entries.old ≤ 4294967295 }
     ensures ok { OnOk result (names_of entries.new.items ≡ with_first_note (names_of entries.old.items) name was) }
-    ensures err { OnErr result ((entries.new.items ≡ entries.old.items) × (vec_len entries.new ≡ vec_len entries.old) × (vec_capacity entries.new ≡ vec_capacity entries.old)) }
+    ensures err { OnErr result ((entries.new.items ≡ entries.old.items) × (vec_len entries.new ≡ vec_len entries.old)
+        × (vec_capacity entries.new ≡ vec_capacity entries.old)) }
+    ensures pairs { OnOk result (pairs entries.new.items
+        ≡ with_pair (is_some (get (names_of entries.old.items) name)) (pairs entries.old.items) name was) }
     ensures tree { IsTree entries.new.items }
     ensures few { vec_len entries.new ≤ 4294967295 }
     ensures there { IsSome (get (names_of entries.old.items) name) → IsOk result × (entries.new ≡ entries.old) }
@@ -137,16 +150,62 @@ fn look_up<R: Copy>(entries: &[Entry<R>], name: u32) -> Option<Option<R>>
     }
 }
 
-// The least name from a number on, in one pass over all entries.
-fn least_name<R: Copy>(entries: &[Entry<R>], least: u32) -> Option<u32>
-    requires { IsTree entries.now }
+// Where the names of a front that rises reach a number, by halves.
+fn first_from<R: Copy>(entries: &[Entry<R>], rising: usize, least: u32) -> usize
+    requires within { rising ≤ length entries.now }
+    requires rising { IsNonDecreasingBy (λ x. x.0) (take rising (pairs entries.now)) }
+    ensures { IsFirstFrom entries.now rising least result }
+{
+    entries[..rising].partition_point(|e| e.name < least)
+}
+
+// The least name from a number on in a front that rises.
+fn least_in_front<R: Copy>(entries: &[Entry<R>], rising: usize, least: u32) -> Option<u32>
+    requires tree { IsTree entries.now }
+    requires within { rising ≤ length entries.now }
+    requires rising { IsNonDecreasingBy (λ x. x.0) (take rising (pairs entries.now)) }
+    ensures { IsLeast (names_of (take rising entries.now)) least result }
+{
+    let at = first_from(entries, rising, least);
+    if at < rising {
+        Some(entries[at].name)
+    } else {
+        None
+    }
+}
+
+// The least name from a number on: by halves in the front that rises, and one by one behind it.
+fn least_name<R: Copy>(entries: &[Entry<R>], rising: usize, least: u32) -> Option<u32>
+    requires tree { IsTree entries.now }
+    requires within { rising ≤ length entries.now }
+    requires rising { IsNonDecreasingBy (λ x. x.0) (take rising (pairs entries.now)) }
     ensures { IsLeast (names_of entries.now) least result }
 {
-    let mut best: Option<u32> = None;
-    for k in 0..entries.len() {
+    let mut best = least_in_front(entries, rising, least);
+    for k in rising..entries.len() {
         best = nearer(best, least, entries[k].name);
     }
     best
+}
+
+// Whether all names rise, and a name surely comes behind them.
+fn is_behind<R: Copy>(entries: &[Entry<R>], rising: usize, name: u32) -> bool
+    requires within { rising ≤ length entries.now }
+    requires rising { IsNonDecreasingBy (λ x. x.0) (take rising (pairs entries.now)) }
+    ensures { result ≡ true → IsBehind (pairs entries.now) name }
+{
+    let n = entries.len();
+    if rising != n {
+        return false;
+    }
+    if n == 0 {
+        return true;
+    }
+    let last = entries[n - 1].name;
+    if last < name {
+        return true;
+    }
+    false
 }
 
 // The lesser of two names, leaving out one below a number.
@@ -169,7 +228,8 @@ pub(crate) fn settle<R: Copy>(entries: &mut Vec<Entry<R>>, kept: usize, name: u3
     requires absent { IsAbsent (take kept entries.old.items) name }
     requires few { vec_len entries.old ≤ 4294967295 }
     ensures tree { IsTree (take (kept + 1) entries.new.items) }
-    ensures pairs { pairs (take (kept + 1) entries.new.items) ≡ pairs (take kept entries.old.items) ++ (name, was) ∷ [] }
+    ensures pairs { pairs (take (kept + 1) entries.new.items)
+        ≡ pairs (take kept entries.old.items) ++ (name, was) ∷ [] }
     ensures rest { (i : ℕ) → kept < i → slice_get entries.new.items i ≡ slice_get entries.old.items i }
     ensures len { vec_len entries.new ≡ vec_len entries.old }
     ensures capacity { vec_capacity entries.new ≡ vec_capacity entries.old }
@@ -197,6 +257,9 @@ pub(crate) fn settle<R: Copy>(entries: &mut Vec<Entry<R>>, kept: usize, name: u3
 #[derive(Drop)]
 pub(crate) struct NoteMap<R> {
     pub(crate) entries: Vec<Entry<R>>,
+    /// How many entries from the front surely stand by rising name: all of them as long as names are noted
+    /// in that order, and once they were sorted.
+    pub(crate) rising: usize,
 }
 
 impl<R> Model for NoteMap<R> {
@@ -210,9 +273,12 @@ impl<R> Model for NoteMap<R> {
 
     ghost use Rattle.mesh_trail.specs.Tree.{names_of, AreNoted};
 
-    ghost view = { λ m. record { names = names_of m.entries.items; room = min (vec_capacity m.entries) 4294967295 - vec_len m.entries } };
+    ghost view = { λ m. record {
+      names = names_of m.entries.items;
+      room = min (vec_capacity m.entries) 4294967295 - vec_len m.entries;
+    } };
 
-    ghost invariant = { λ m. AreNoted m.entries.items (vec_len m.entries) };
+    ghost invariant = { λ m. AreNoted m.entries.items (vec_len m.entries) m.rising };
 }
 
 impl<R: Copy> NoteMap<R> {
@@ -222,6 +288,7 @@ impl<R: Copy> NoteMap<R> {
     {
         NoteMap {
             entries: Vec::new(alloc),
+            rising: 0,
         }
     }
 
@@ -247,8 +314,28 @@ impl<R: Copy> NoteMap<R> {
         ensures succeeds { 0 < self.old.room → IsOk result }
         ensures room { self.old.room ≤ self.new.room + 1 }
     {
+        let last = is_behind(&self.entries, self.rising, name);
         place(&mut self.entries, name, was)?;
+        if last {
+            self.rising = self.entries.len();
+        }
         Ok(())
+    }
+
+    /// Takes away each note. Takes no memory, and keeps what there is.
+    pub(crate) fn clear(&mut self)
+        ensures names { self.new.names ≡ empty }
+        ensures room { self.old.room ≤ self.new.room }
+    {
+        self.entries.clear();
+        self.rising = 0;
+    }
+
+    /// Gives back the memory that isn't used.
+    pub(crate) fn shrink(&mut self)
+        ensures { self.new.names ≡ self.old.names }
+    {
+        self.entries.shrink_to_fit();
     }
 
     /// The entry of a name.
@@ -268,11 +355,12 @@ impl<R: Copy> NoteMap<R> {
         }
     }
 
-    /// The least name from a number on, in one pass over all entries.
+    /// The least name from a number on: by halves among those that stand by rising name, and one by one behind
+    /// them.
     pub(crate) fn least(&self, least: u32) -> Option<u32>
         ensures { IsLeast self.now.names least result }
     {
-        least_name(&self.entries, least)
+        least_name(&self.entries, self.rising, least)
     }
 
     /// The number of notes.

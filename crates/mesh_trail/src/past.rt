@@ -1,11 +1,11 @@
-ghost use Rattle.std.specs.Prelude.{◌≡◌, ◌≤◌, ◌<◌, ◌+◌, [], ◌∷◌, OnOk, OnErr, IsOk, IsSome, Some, length, is_some, slice_get};
+ghost use Rattle.std.specs.Prelude.{◌≡◌, ◌≤◌, ◌<◌, ◌+◌, ◌↔◌, true, [], ◌∷◌, OnOk, OnErr, IsOk, IfOk, IsSome, Some, length, is_some, slice_get};
 ghost use Rattle.std.specs.FinMap.{get};
 ghost use Rattle.std.specs.Option.{option_map};
 ghost use Rattle.mesh_model.specs.Table.{at};
 ghost use Rattle.mesh_model.specs.Complex.{corners_of};
 ghost use Rattle.mesh_model.specs.ChangeSet.{trim};
 ghost use Rattle.mesh_model.specs.ChangeSetNotes.{with_first_note};
-ghost use Rattle.mesh_trail.specs.Pasts.{widths_of, no_changes, IsAtMost, count_of, is_noted, was_absent};
+ghost use Rattle.mesh_trail.specs.Pasts.{widths_of, no_changes, no_room, IsAtMost, number_of, count_of, is_noted, was_absent};
 ghost use Rattle.mesh_trail.specs.Noted.{noted};
 ghost use Rattle.mesh_trail.specs.Tree.{IsLeast};
 
@@ -47,7 +47,12 @@ impl Model for Past {
         faces = p.faces.names;
         next = record { verts = p.next_vert; edges = p.next_edge; faces = p.next_face };
       };
-      widths = record { verts = p.verts.width; edges = p.edges.width; corners = p.faces.corner_width; faces = p.faces.width };
+      widths = record {
+        verts = p.verts.width;
+        edges = p.edges.width;
+        corners = p.faces.corner_width;
+        faces = p.faces.width;
+      };
       room = record { verts = p.verts.room; edges = p.edges.room; corners = p.faces.corner_room; faces = p.faces.room };
     } };
 }
@@ -57,6 +62,7 @@ impl Past {
     pub fn new<S: Shape>(alloc: Global, now: &S) -> Past
         ensures changes { result.changes ≡ no_changes (S.complex now.now) }
         ensures widths { result.widths ≡ widths_of (S.complex now.now) }
+        ensures room { result.room ≡ no_room }
     {
         let next = now.counters();
         Past {
@@ -69,8 +75,62 @@ impl Past {
         }
     }
 
+    /// Whether the rows of values are as wide as a shape's, as each call asks that is given one.
+    pub fn fits<S: Shape>(&self, now: &S) -> bool
+        ensures { result ≡ true ↔ (self.now.widths ≡ widths_of (S.complex now.now)) }
+    {
+        let (faces, corners) = self.faces.widths();
+        if self.verts.width() != now.width(Kind::Verts) {
+            return false;
+        }
+        if self.edges.width() != now.width(Kind::Edges) {
+            return false;
+        }
+        if corners != now.width(Kind::Corners) {
+            return false;
+        }
+        faces == now.width(Kind::Faces)
+    }
+
+    /// Takes away each note, and has the next names and the widths of now. Takes no memory, and keeps what there is:
+    /// the room of each kind whose width is the same stays.
+    pub fn restart<S: Shape>(&mut self, now: &S)
+        ensures changes { self.new.changes ≡ no_changes (S.complex now.now) }
+        ensures widths { self.new.widths ≡ widths_of (S.complex now.now) }
+        ensures room { self.old.widths ≡ widths_of (S.complex now.now) → self.new.room ≡ self.old.room }
+    {
+        let next = now.counters();
+        self.verts.restart(now.width(Kind::Verts));
+        self.edges.restart(now.width(Kind::Edges));
+        self.faces
+            .restart(now.width(Kind::Faces), now.width(Kind::Corners));
+        self.next_vert = next.verts;
+        self.next_edge = next.edges;
+        self.next_face = next.faces;
+    }
+
+    /// The same notes, next names and widths in memory of its own, no more than the notes need: the rows of values
+    /// and the corners of notes that were trimmed away aren't copied. Takes at most 33 steps a note, beside its
+    /// values and corners.
+    pub fn copy(&self) -> Result<Past, NoMemory>
+        ensures changes { IfOk result (λ p. p.changes ≡ self.now.changes) }
+        ensures widths { IfOk result (λ p. p.widths ≡ self.now.widths) }
+    {
+        let verts = self.verts.copy()?;
+        let edges = self.edges.copy()?;
+        let faces = self.faces.copy()?;
+        Ok(Past {
+            verts,
+            edges,
+            faces,
+            next_vert: self.next_vert,
+            next_edge: self.next_edge,
+            next_face: self.next_face,
+        })
+    }
+
     /// Makes room for so many further notes of each kind, the faces with so many corners together: that many
-    /// are then made without memory.
+    /// are then made without memory. After `NoMemory` the past is as before.
     pub fn reserve(
         &mut self,
         verts: usize,
@@ -80,7 +140,35 @@ impl Past {
     ) -> Result<(), NoMemory>
         ensures changes { self.new.changes ≡ self.old.changes }
         ensures widths { self.new.widths ≡ self.old.widths }
-        ensures ok { OnOk result (IsAtMost (record { verts = verts; edges = edges; corners = corners; faces = faces }) self.new.room) }
+        ensures ok { OnOk result (IsAtMost (record { verts = verts; edges = edges; corners = corners; faces = faces })
+            self.new.room) }
+        ensures err { OnErr result (self.new ≡ self.old) }
+        ensures room { IsAtMost self.old.room self.new.room }
+    {
+        let vert_room = self.verts.room();
+        let edge_room = self.edges.room();
+        let (face_room, corner_room) = self.faces.room();
+        let made = self.make_room(verts, edges, corners, faces);
+        if made.is_err() {
+            self.verts.lessen(vert_room);
+            self.edges.lessen(edge_room);
+            self.faces.lessen(face_room, corner_room);
+        }
+        made
+    }
+
+    // Makes room for so many further notes of each kind, or maybe of some kinds alone.
+    fn make_room(
+        &mut self,
+        verts: usize,
+        edges: usize,
+        corners: usize,
+        faces: usize,
+    ) -> Result<(), NoMemory>
+        ensures changes { self.new.changes ≡ self.old.changes }
+        ensures widths { self.new.widths ≡ self.old.widths }
+        ensures ok { OnOk result (IsAtMost (record { verts = verts; edges = edges; corners = corners; faces = faces })
+            self.new.room) }
         ensures room { IsAtMost self.old.room self.new.room }
     {
         self.verts.reserve(verts)?;
@@ -92,7 +180,11 @@ impl Past {
     /// Notes a vertex's record, or that it isn't there. Where the name has a note, nothing changes.
     pub fn note_vert<S: Shape>(&mut self, name: VertName, now: &S) -> Result<(), NoMemory>
         requires { self.old.widths ≡ widths_of (S.complex now.now) }
-        ensures ok { OnOk result (self.new.changes ≡ record self.old.changes { verts = with_first_note self.old.changes.verts name.0 (at (S.complex now.now).verts name.0) }) }
+        ensures ok { OnOk result (self.new.changes
+            ≡ record self.old.changes {
+              verts = with_first_note self.old.changes.verts name.0
+                  (at (S.complex now.now).verts name.0);
+            }) }
         ensures err { OnErr result (self.new ≡ self.old) }
         ensures there { IsSome (get self.old.changes.verts name.0) → IsOk result × (self.new ≡ self.old) }
         ensures widths { self.new.widths ≡ self.old.widths }
@@ -109,7 +201,11 @@ impl Past {
     /// Notes an edge's record, or that it isn't there. Where the name has a note, nothing changes.
     pub fn note_edge<S: Shape>(&mut self, name: EdgeName, now: &S) -> Result<(), NoMemory>
         requires { self.old.widths ≡ widths_of (S.complex now.now) }
-        ensures ok { OnOk result (self.new.changes ≡ record self.old.changes { edges = with_first_note self.old.changes.edges name.0 (at (S.complex now.now).edges name.0) }) }
+        ensures ok { OnOk result (self.new.changes
+            ≡ record self.old.changes {
+              edges = with_first_note self.old.changes.edges name.0
+                  (at (S.complex now.now).edges name.0);
+            }) }
         ensures err { OnErr result (self.new ≡ self.old) }
         ensures there { IsSome (get self.old.changes.edges name.0) → IsOk result × (self.new ≡ self.old) }
         ensures widths { self.new.widths ≡ self.old.widths }
@@ -126,12 +222,20 @@ impl Past {
     /// Notes a face's record, or that it isn't there. Where the name has a note, nothing changes.
     pub fn note_face<S: Shape>(&mut self, name: FaceName, now: &S) -> Result<(), NoMemory>
         requires { self.old.widths ≡ widths_of (S.complex now.now) }
-        ensures ok { OnOk result (self.new.changes ≡ record self.old.changes { faces = with_first_note self.old.changes.faces name.0 (at (S.complex now.now).faces name.0) }) }
+        ensures ok { OnOk result (self.new.changes
+            ≡ record self.old.changes {
+              faces = with_first_note self.old.changes.faces name.0
+                  (at (S.complex now.now).faces name.0);
+            }) }
         ensures err { OnErr result (self.new ≡ self.old) }
         ensures there { IsSome (get self.old.changes.faces name.0) → IsOk result × (self.new ≡ self.old) }
         ensures widths { self.new.widths ≡ self.old.widths }
-        ensures succeeds { 0 < self.old.room.faces → length (corners_of (at (S.complex now.now).faces name.0)) ≤ self.old.room.corners → IsOk result }
-        ensures room { IsAtMost self.old.room (record self.new.room { corners = self.new.room.corners + length (corners_of (at (S.complex now.now).faces name.0)); faces = self.new.room.faces + 1 }) }
+        ensures succeeds { 0 < self.old.room.faces
+            → length (corners_of (at (S.complex now.now).faces name.0)) ≤ self.old.room.corners → IsOk result }
+        ensures room { IsAtMost self.old.room (record self.new.room {
+          corners = self.new.room.corners + length (corners_of (at (S.complex now.now).faces name.0));
+          faces = self.new.room.faces + 1;
+        }) }
     {
         if self.faces.has(name.0) {
             return Ok(());
@@ -141,7 +245,8 @@ impl Past {
     }
 
     /// Takes away each note whose record equals now's, and each that an element wasn't there which isn't there
-    /// now. Takes no memory.
+    /// now. Takes no memory, and the time of a sort of the notes by name. The rows and the corners of notes that were
+    /// taken away stay in memory until `restart`, and a `copy` has none of them.
     pub fn trim<S: Shape>(&mut self, now: &S)
         requires { self.old.widths ≡ widths_of (S.complex now.now) }
         ensures changes { self.new.changes ≡ trim self.old.changes (S.complex now.now) }
@@ -162,6 +267,19 @@ impl Past {
             Kind::Edges => self.edges.len(),
             Kind::Corners => 0,
             Kind::Faces => self.faces.len(),
+        }
+    }
+
+    /// The number of values in each row of a kind.
+    pub fn width(&self, kind: Kind) -> usize
+        ensures { result ≡ number_of self.now.widths kind }
+    {
+        let (faces, corners) = self.faces.widths();
+        match kind {
+            Kind::Verts => self.verts.width(),
+            Kind::Edges => self.edges.width(),
+            Kind::Corners => corners,
+            Kind::Faces => faces,
         }
     }
 
@@ -189,12 +307,15 @@ impl Past {
 
     /// The earlier next names of vertices, edges and faces.
     pub fn counters(&self) -> [u32; 3]
-        ensures { result ≡ self.now.changes.next.verts ∷ self.now.changes.next.edges ∷ self.now.changes.next.faces ∷ [] }
+        ensures { result ≡ self.now.changes.next.verts ∷ self.now.changes.next.edges ∷ self.now.changes.next.faces
+            ∷ [] }
     {
         [self.next_vert, self.next_edge, self.next_face]
     }
 
-    /// The least vertex with a note whose number isn't below `least`, and None just where there is none.
+    /// The least vertex with a note whose number isn't below `least`, and None just where there is none. Takes at
+    /// most 33 steps after a trim or where names were noted in rising order, and beside them one step for each note
+    /// since then.
     pub fn vert_from(&self, least: u32) -> Option<VertName>
         ensures { IsLeast self.now.changes.verts least (option_map (λ v. v.0) result) }
     {
@@ -204,7 +325,8 @@ impl Past {
         }
     }
 
-    /// The least edge with a note whose number isn't below `least`, and None just where there is none.
+    /// The least edge with a note whose number isn't below `least`, and None just where there is none, at the cost of
+    /// `vert_from`.
     pub fn edge_from(&self, least: u32) -> Option<EdgeName>
         ensures { IsLeast self.now.changes.edges least (option_map (λ e. e.0) result) }
     {
@@ -214,7 +336,8 @@ impl Past {
         }
     }
 
-    /// The least face with a note whose number isn't below `least`, and None just where there is none.
+    /// The least face with a note whose number isn't below `least`, and None just where there is none, at the cost of
+    /// `vert_from`.
     pub fn face_from(&self, least: u32) -> Option<FaceName>
         ensures { IsLeast self.now.changes.faces least (option_map (λ f. f.0) result) }
     {
@@ -257,7 +380,8 @@ impl Past {
     /// The vertex and the edge that a face's corner had, by its position from 0.
     pub fn corner(&self, f: FaceName, i: u32) -> (VertName, EdgeName)
         requires { i < length (corners_of (noted self.now.changes.faces f.0)) }
-        ensures { option_map (λ k. (k.vert, k.edge)) (slice_get (corners_of (noted self.now.changes.faces f.0)) i) ≡ Some result }
+        ensures { option_map (λ k. (k.vert, k.edge)) (slice_get (corners_of (noted self.now.changes.faces f.0)) i)
+            ≡ Some result }
     {
         self.faces.corner(f.0, i)
     }
@@ -284,7 +408,8 @@ impl Past {
     pub fn corner_value(&self, f: FaceName, i: u32, k: usize) -> i64
         requires there { i < length (corners_of (noted self.now.changes.faces f.0)) }
         requires within { k < self.now.widths.corners }
-        ensures { option_map (λ r. slice_get r.vals k) (slice_get (corners_of (noted self.now.changes.faces f.0)) i) ≡ Some (Some result) }
+        ensures { option_map (λ r. slice_get r.vals k) (slice_get (corners_of (noted self.now.changes.faces f.0)) i)
+            ≡ Some (Some result) }
     {
         self.faces.corner_value(f.0, i, k)
     }

@@ -61,6 +61,20 @@ impl<'a, S: Shape> Row for FaceRow<'a, S> {
     }
 }
 
+// Values that are kept.
+#[derive(Clone, Copy)]
+pub(crate) struct NumberRow<'a> {
+    pub(crate) numbers: &'a [i64],
+}
+
+impl<'a> Row for NumberRow<'a> {
+    ghost vals = { λ r. r.numbers.now };
+
+    fn value(&self, k: usize) -> i64 {
+        self.numbers[k]
+    }
+}
+
 // Puts a row at the end, or leaves all as before.
 pub(crate) fn push_row<R: Row>(values: &mut Vec<i64>, width: usize, row: &R) -> Result<(), NoMemory>
     requires { length (R.vals row.now) ≡ width }

@@ -1,13 +1,14 @@
 //! Notes of one kind with a row of values each; the rows stand one behind another in one vector.
 
-ghost use Rattle.std.specs.Prelude.{◌≡◌, ◌≤◌, ◌<◌, ◌+◌, OnOk, OnErr, IsOk, IsSome, Some, None, true, length, is_some, slice_get};
+ghost use Rattle.std.specs.Prelude.{◌≡◌, ◌≤◌, ◌<◌, ◌+◌, ◌*◌, OnOk, OnErr, IsOk, IfOk, IfSome, IsSome, Some, None, true, length, is_some, slice_get};
 ghost use Rattle.std.specs.FinMap.{get, empty, insert, len};
-ghost use Rattle.mesh_trail.specs.Noted.{noted, is_absent};
+ghost use Rattle.mesh_trail.specs.Noted.{noted, is_absent, map_notes};
+ghost use Rattle.mesh_trail.specs.Kept.{kept_row, AreWithin};
 ghost use Rattle.std.specs.Option.{option_map};
-ghost use Rattle.mesh_trail.specs.Tree.{IsLeast};
+ghost use Rattle.mesh_trail.specs.Tree.{IsLeast, IsTree, names_of};
 
-use crate::note_map::NoteMap;
-use crate::rows::{Row, push_row};
+use crate::note_map::{Entry, NoteMap, entry_at};
+use crate::rows::{NumberRow, Row, push_row};
 use mesh_model::NoMemory;
 use std::alloc::Global;
 use std::marker::Model;
@@ -29,7 +30,16 @@ fn says_absent<B: Copy>(note: Option<Option<B>>) -> bool
     }
 }
 
-// Notes of one kind. Rows of notes that were taken away stay where they were.
+// The room that is told of for rows of another width: none.
+fn room_at(room: usize, old: usize, new: usize) -> usize
+    ensures same { old ≡ new → result ≡ room }
+    ensures less { result ≤ room }
+    ensures numbers { result * new ≤ room * old }
+{
+    if old == new { room } else { 0 }
+}
+
+// Notes of one kind. Rows of notes that were taken away stay where they were, until a copy is made.
 #[derive(Drop)]
 pub(crate) struct Table<B> {
     pub(crate) map: NoteMap<Kept<B>>,
@@ -48,7 +58,11 @@ impl<B> Model for Table<B> {
 
     ghost coded = { kept_code B.code };
 
-    ghost view = { λ t. record { names = map_notes (kept_row t.width t.values.items) t.map.names; width = t.width; room = t.spare } };
+    ghost view = { λ t. record {
+      names = map_notes (kept_row t.width t.values.items) t.map.names;
+      width = t.width;
+      room = t.spare;
+    } };
 
     ghost invariant = { λ t. IsTable t.width t.spare t.map (vec_len t.values) (vec_capacity t.values) };
 }
@@ -86,6 +100,89 @@ impl<B: Copy> Table<B> {
         self.values.reserve(numbers)?;
         self.spare = more;
         Ok(())
+    }
+
+    // How many more notes surely take no memory.
+    pub(crate) fn room(&self) -> usize
+        ensures { result ≡ self.now.room }
+    {
+        self.spare
+    }
+
+    // The width of a row.
+    pub(crate) fn width(&self) -> usize
+        ensures { result ≡ self.now.width }
+    {
+        self.width
+    }
+
+    // Tells of less room.
+    pub(crate) fn lessen(&mut self, room: usize)
+        requires { room ≤ self.old.room }
+        ensures { self.new ≡ record self.old { room = room } }
+    {
+        self.spare = room;
+    }
+
+    // Takes away each note, and has rows of a width from then on. Takes no memory, and keeps what there is.
+    pub(crate) fn restart(&mut self, width: usize)
+        ensures names { self.new.names ≡ empty }
+        ensures width { self.new.width ≡ width }
+        ensures room { self.old.width ≡ width → self.new.room ≡ self.old.room }
+    {
+        self.spare = room_at(self.spare, self.width, width);
+        self.width = width;
+        self.values.clear();
+        self.map.clear();
+    }
+
+    // Gives back the memory that isn't used, after which no note surely takes none.
+    pub(crate) fn shrink(&mut self)
+        ensures names { self.new.names ≡ self.old.names }
+        ensures width { self.new.width ≡ self.old.width }
+    {
+        self.spare = 0;
+        self.values.shrink_to_fit();
+        self.map.shrink();
+    }
+
+    // Where its memory is from.
+    pub(crate) fn allocator(&self) -> Global {
+        *self.values.allocator()
+    }
+
+    // The same notes and no more memory than they need.
+    pub(crate) fn copy(&self) -> Result<Table<B>, NoMemory>
+        ensures names { IfOk result (λ t. t.names ≡ self.now.names) }
+        ensures width { IfOk result (λ t. t.width ≡ self.now.width) }
+    {
+        let mut table = Table::new(self.allocator(), self.width);
+        copy_map(&mut table, &self.map, &self.values)?;
+        table.shrink();
+        Ok(table)
+    }
+
+    // Notes what a name had that has no note, its row being one of these numbers.
+    pub(crate) fn put(
+        &mut self,
+        name: u32,
+        was: Option<Kept<B>>,
+        values: &[i64],
+    ) -> Result<(), NoMemory>
+        requires none { get self.old.names name ≡ None }
+        requires within { IfSome was (λ k. k.row + self.old.width ≤ length values.now) }
+        ensures ok { OnOk result (self.new.names
+            ≡ insert self.old.names name (option_map (kept_row self.old.width values.now) was)) }
+        ensures err { OnErr result (self.new ≡ self.old) }
+        ensures width { self.new.width ≡ self.old.width }
+    {
+        let Some(kept) = was else {
+            return self.note_absent(name);
+        };
+        let row = NumberRow {
+            numbers: &values[kept.row..kept.row + self.width],
+        };
+        self.note_row(name, kept.body, &row)
     }
 
     // Whether a name has a note.
@@ -175,4 +272,39 @@ impl<B: Copy> Table<B> {
     {
         self.map.len()
     }
+}
+
+// Notes all that entries note, in their order, in a table without a note.
+fn copy_entries<B: Copy>(
+    table: &mut Table<B>,
+    entries: &[Entry<Kept<B>>],
+    values: &[i64],
+) -> Result<(), NoMemory>
+    requires empty { table.old.names ≡ empty }
+    requires tree { IsTree entries.now }
+    requires within { AreWithin table.old.width (length values.now) (names_of entries.now) }
+    ensures names { OnOk result (table.new.names
+        ≡ map_notes (kept_row table.old.width values.now) (names_of entries.now)) }
+    ensures width { table.new.width ≡ table.old.width }
+{
+    for k in 0..entries.len() {
+        let e = entry_at(entries, k);
+        table.put(e.name, e.was, values)?;
+    }
+    Ok(())
+}
+
+// Notes all that a map notes in a table without a note.
+fn copy_map<B: Copy>(
+    table: &mut Table<B>,
+    map: &NoteMap<Kept<B>>,
+    values: &[i64],
+) -> Result<(), NoMemory>
+    requires empty { table.old.names ≡ empty }
+    requires within { AreWithin table.old.width (length values.now) map.now.names }
+    ensures names { OnOk result (table.new.names ≡ map_notes (kept_row table.old.width values.now) map.now.names) }
+    ensures width { table.new.width ≡ table.old.width }
+{
+    copy_entries(table, &map.entries, values)?;
+    Ok(())
 }

@@ -1,14 +1,16 @@
-use Rattle.std.proofs.Common.{◌≡◌, ◌<◌, Some, ap, sym, ◌∙◌, arith, length}
+use Rattle.std.proofs.lemmas.List.Sorted.{IsNonDecreasingBy-from_sort_by_key}
+use Rattle.std.proofs.Common.{rules, ◌≡◌, ◌<◌, Some, ap, sym, ◌∙◌, arith, length}
 use Rattle.mesh_model.specs.ChangeSet.{same_face}
 use Rattle.mesh_trail.specs.Kept.{face_in, KeptCorners}
 use Rattle.mesh_trail.proofs.Trees.{entry_read}
 use Rattle.mesh_trail.proofs.Sorting.{permuted_apart}
-use Rattle.mesh_trail.proofs.Trims.{trim_skip, trim_keep, trimmed_whole, noted_before, if_there, differs_by}
+use Rattle.mesh_trail.proofs.Trims.{trim_skip, trim_keep, trimmed_whole, trimmed_rises, noted_before, if_there, differs_by}
 use Rattle.mesh_trail.proofs.faces.trim_entries.Goals.{then-differs, else-differs}
 use Rattle.mesh_trail.proofs.faces.trim_entries.Goals as goal
 
 pub differs-requires-clause-corners_wide : goal.differs-requires-clause-corners_wide
-differs-requires-clause-corners_wide g c = ap (λ (s : KeptCorners). s.width) c.loop-k.invariant.same ∙ c.requires.corners_wide
+differs-requires-clause-corners_wide g c =
+    ap (λ (s : KeptCorners). s.width) c.loop-k.invariant.same ∙ c.requires.corners_wide
 
 pub differs-requires-clause-within : goal.differs-requires-clause-within
 differs-requires-clause-within g c =
@@ -16,7 +18,8 @@ differs-requires-clause-within g c =
     let less : c.loop-k.k < length c.loop-k.entries.items = omega arith in
     let read = entry_read c.loop-k.entries.items c.loop-k.k e less c.index-e.ensures in
     let moved = c.sort_unstable_by_key.ensures.permutation in
-    let noted = noted_before c.args.entries.now.items c.sort_unstable_by_key.new.self.items c.loop-k.k e moved c.requires.tree.apart (sym (c.loop-k.invariant.steps.rest c.loop-k.k (omega arith)) ∙ read) in
+    let noted = noted_before c.args.entries.now.items c.sort_unstable_by_key.new.self.items c.loop-k.k e moved
+    c.requires.tree.apart (sym (c.loop-k.invariant.steps.rest c.loop-k.k (omega arith)) ∙ read) in
     if_there e.was (λ k is. c.requires.within e.name k (noted ∙ ap (λ (o : _). Some o) is))
 
 pub differs-requires-clause-stored : goal.differs-requires-clause-stored
@@ -25,40 +28,51 @@ differs-requires-clause-stored g c =
     let less : c.loop-k.k < length c.loop-k.entries.items = omega arith in
     let read = entry_read c.loop-k.entries.items c.loop-k.k e less c.index-e.ensures in
     let moved = c.sort_unstable_by_key.ensures.permutation in
-    let noted = noted_before c.args.entries.now.items c.sort_unstable_by_key.new.self.items c.loop-k.k e moved c.requires.tree.apart (sym (c.loop-k.invariant.steps.rest c.loop-k.k (omega arith)) ∙ read) in
-    let long : length c.loop-k.corners.corners ≡ length c.args.corners.now.corners = ap (λ (s : KeptCorners). length s.corners) c.loop-k.invariant.same in
-    let most : c.loop-k.corners.longest ≡ c.args.corners.now.longest = ap (λ (s : KeptCorners). s.longest) c.loop-k.invariant.same in
-    if_there e.was (λ k is. (let it = c.requires.stored e.name k (noted ∙ ap (λ (o : _). Some o) is) in (omega (arith, it.0, long), omega (arith, it.1, most))))
+    let noted = noted_before c.args.entries.now.items c.sort_unstable_by_key.new.self.items c.loop-k.k e moved
+    c.requires.tree.apart (sym (c.loop-k.invariant.steps.rest c.loop-k.k (omega arith)) ∙ read) in
+    let long : length c.loop-k.corners.corners ≡ length c.args.corners.now.corners =
+    ap (λ (s : KeptCorners). length s.corners) c.loop-k.invariant.same in
+    let most : c.loop-k.corners.longest ≡ c.args.corners.now.longest =
+    ap (λ (s : KeptCorners). s.longest) c.loop-k.invariant.same in
+    if_there e.was (λ k is. (let it = c.requires.stored e.name k (noted ∙ ap (λ (o : _). Some o) is) in
+    (omega (arith, it.0, long), omega (arith, it.1, most))))
 
 pub settle-requires-clause-absent : goal.settle-requires-clause-absent
 settle-requires-clause-absent g c =
     let less : c.loop-k.k < length c.loop-k.entries.items = omega arith in
     let read = entry_read c.loop-k.entries.items c.loop-k.k c.index-e.result.now less c.index-e.ensures in
-    λ j d at_j same. c.loop-k.invariant.steps.apart j c.loop-k.k d c.index-e.result.now at_j (sym (c.loop-k.invariant.steps.rest c.loop-k.k (omega arith)) ∙ read) (omega arith) same
+    λ j d at_j same. c.loop-k.invariant.steps.apart j c.loop-k.k d c.index-e.result.now at_j
+    (sym (c.loop-k.invariant.steps.rest c.loop-k.k (omega arith)) ∙ read) (omega arith) same
 
 pub loop-k-preserved : goal.loop-k-preserved
 loop-k-preserved g c =
     let sorted = c.sort_unstable_by_key.new.self.items in
     let es = c.loop-k.entries.items in
     let e = c.index-e.result.now in
-    let p = differs_by (face_in c.args.corners.now.corners c.args.width c.args.values.now) same_face (g.S.Shape.complex c.args.now.now).faces in
+    let p = differs_by (face_in c.args.corners.now.corners c.args.width c.args.values.now) same_face
+    (g.S.Shape.complex c.args.now.now).faces in
     let less : c.loop-k.k < length es = omega arith in
     let read = entry_read es c.loop-k.k e less c.index-e.ensures in
-    let distinct = permuted_apart c.args.entries.now.items sorted c.sort_unstable_by_key.ensures.permutation c.requires.tree.apart in
+    let distinct = permuted_apart c.args.entries.now.items sorted c.sort_unstable_by_key.ensures.permutation
+    c.requires.tree.apart in
     let tells : c.differs.result ≡ p e.name e.was =
-    c.differs.ensures.result ∙ ap (λ (s : KeptCorners). differs_by (face_in s.corners c.args.width c.args.values.now) same_face (g.S.Shape.complex c.args.now.now).faces e.name e.was) c.loop-k.invariant.same in
+    c.differs.ensures.result ∙ ap (λ (s : KeptCorners). differs_by (face_in s.corners c.args.width c.args.values.now)
+    same_face (g.S.Shape.complex c.args.now.now).faces e.name e.was) c.loop-k.invariant.same in
     let same = c.differs.ensures.same ∙ c.loop-k.invariant.same in
     elim c.if-differs.branch [
       | then-differs w ↦ (let s = w.settle.ensures in
           let long : length w.settle.new.entries.items ≡ length es = omega (arith, s.len) in
           record {
-            steps = rw (w.entries-is, w.kept-is) (trim_keep p sorted es w.settle.new.entries.items c.loop-k.kept c.loop-k.k e distinct read (sym tells ∙ w.if-differs.true) c.loop-k.invariant.steps long s.tree s.pairs s.rest);
+            steps = rw (w.entries-is, w.kept-is) (trim_keep p sorted es w.settle.new.entries.items c.loop-k.kept
+                c.loop-k.k e distinct read (sym tells ∙ w.if-differs.true) c.loop-k.invariant.steps long s.tree s.pairs
+                s.rest);
             same = same;
             len = rw w.entries-is (s.len ∙ c.loop-k.invariant.len);
             capacity = rw w.entries-is (s.capacity ∙ c.loop-k.invariant.capacity);
           })
       | else-differs w ↦ record {
-        steps = rw (w.entries-is, w.kept-is) (trim_skip p sorted es c.loop-k.kept c.loop-k.k e read (sym tells ∙ w.if-differs.false) c.loop-k.invariant.steps);
+        steps = rw (w.entries-is, w.kept-is) (trim_skip p sorted es c.loop-k.kept c.loop-k.k e read
+            (sym tells ∙ w.if-differs.false) c.loop-k.invariant.steps);
         same = same;
         len = rw w.entries-is c.loop-k.invariant.len;
         capacity = rw w.entries-is c.loop-k.invariant.capacity;
@@ -67,5 +81,17 @@ loop-k-preserved g c =
 
 pub returns-clause-trimmed : goal.returns-clause-trimmed
 returns-clause-trimmed g c =
-    trimmed_whole (face_in c.args.corners.now.corners c.args.width c.args.values.now) same_face (g.S.Shape.complex c.args.now.now).faces c.args.entries.now.items c.loop-k.entries.items c.sort_unstable_by_key.new.self.items c.truncate.new.self.items
-    c.loop-k.kept c.loop-k.k c.sort_unstable_by_key.ensures.permutation c.requires.tree.apart (omega arith) c.loop-k.invariant.steps c.truncate.ensures.items
+    trimmed_whole (face_in c.args.corners.now.corners c.args.width c.args.values.now) same_face
+    (g.S.Shape.complex c.args.now.now).faces c.args.entries.now.items c.loop-k.entries.items
+    c.sort_unstable_by_key.new.self.items c.truncate.new.self.items
+    c.loop-k.kept c.loop-k.k c.sort_unstable_by_key.ensures.permutation c.requires.tree.apart (omega arith)
+    c.loop-k.invariant.steps c.truncate.ensures.items
+
+pub returns-clause-rising : goal.returns-clause-rising
+returns-clause-rising g c =
+    let sorted = c.sort_unstable_by_key.new.self.items in
+    let ordered = IsNonDecreasingBy-from_sort_by_key (λ e. e.name) sorted c.sort_unstable_by_key.ensures.sorted
+    (λ a r q k. search rules) in
+    trimmed_rises (face_in c.args.corners.now.corners c.args.width c.args.values.now) same_face
+    (g.S.Shape.complex c.args.now.now).faces c.loop-k.entries.items sorted c.truncate.new.self.items c.loop-k.kept
+    c.loop-k.k ordered (omega arith) c.loop-k.invariant.steps c.truncate.ensures.items

@@ -1,3 +1,5 @@
+use Rattle.std.proofs.Common.{arith}
+use Rattle.mesh_trail.proofs.Rising.{noted_whole}
 use Rattle.mesh_trail.proofs.faces.trim_map.Goals as goal
 
 pub trim_entries-requires-clause-within : goal.trim_entries-requires-clause-within
@@ -5,3 +7,7 @@ trim_entries-requires-clause-within g c = rw (← c.map.view_is) at c.requires.w
 
 pub trim_entries-requires-clause-stored : goal.trim_entries-requires-clause-stored
 trim_entries-requires-clause-stored g c = rw (← c.map.view_is) at c.requires.stored
+
+pub invariant_of-map : goal.invariant_of-map
+invariant_of-map g c = noted_whole c.trim_entries.new.entries.items _ _ c.trim_entries.ensures.tree (omega arith)
+    (omega arith) (omega arith) c.trim_entries.ensures.rising

@@ -6,4 +6,5 @@ use Rattle.mesh_trail.proofs.verts.trim_verts.Goals as goal
 pub returns-clause-names : goal.returns-clause-names
 returns-clause-names g c =
     let t = c.table.inside in
-    rw (← c.table.view_is) (trim_names vert_of t.width t.values.items same_vert (g.S.Shape.complex c.args.now.now).verts t.map.names c.trim_map.new.map.names (rw c.deref.ensures.value at c.trim_map.ensures.trimmed))
+    rw (← c.table.view_is) (trim_names vert_of t.width t.values.items same_vert (g.S.Shape.complex c.args.now.now).verts
+    t.map.names c.trim_map.new.map.names (rw c.deref.ensures.value at c.trim_map.ensures.trimmed))

@@ -11,7 +11,8 @@ use Rattle.mesh_trail.proofs.corners.CornerStore.value.Goals as goal
 pub index-requires : goal.index-requires
 index-requires c =
     let s = c.self.inside in
-    let there : (c.args.from + c.args.i) < length s.pairs.items = rw (← c.self.view_is, length-corner_recs s.width s.pairs.items s.values.items) at c.requires.there in
+    let there : (c.args.from + c.args.i) < length s.pairs.items =
+    rw (← c.self.view_is, length-corner_recs s.width s.pairs.items s.values.items) at c.requires.there in
     let within : c.args.k < s.width = rw (← c.self.view_is) at c.requires.within in
     let place = mul-add-lt (c.args.from + c.args.i) s.width c.args.k (vec_len s.pairs) (omega arith) within in
     let turn = mul_comm s.width (vec_len s.pairs) in
@@ -20,7 +21,8 @@ index-requires c =
 pub overflow_mul-from : goal.overflow_mul-from
 overflow_mul-from c =
     let s = c.self.inside in
-    let there : (c.args.from + c.args.i) < length s.pairs.items = rw (← c.self.view_is, length-corner_recs s.width s.pairs.items s.values.items) at c.requires.there in
+    let there : (c.args.from + c.args.i) < length s.pairs.items =
+    rw (← c.self.view_is, length-corner_recs s.width s.pairs.items s.values.items) at c.requires.there in
     let within : c.args.k < s.width = rw (← c.self.view_is) at c.requires.within in
     let place = mul-add-lt (c.args.from + c.args.i) s.width c.args.k (vec_len s.pairs) (omega arith) within in
     let turn = mul_comm s.width (vec_len s.pairs) in
@@ -29,7 +31,8 @@ overflow_mul-from c =
 pub overflow_add-from-2 : goal.overflow_add-from-2
 overflow_add-from-2 c =
     let s = c.self.inside in
-    let there : (c.args.from + c.args.i) < length s.pairs.items = rw (← c.self.view_is, length-corner_recs s.width s.pairs.items s.values.items) at c.requires.there in
+    let there : (c.args.from + c.args.i) < length s.pairs.items =
+    rw (← c.self.view_is, length-corner_recs s.width s.pairs.items s.values.items) at c.requires.there in
     let within : c.args.k < s.width = rw (← c.self.view_is) at c.requires.within in
     let place = mul-add-lt (c.args.from + c.args.i) s.width c.args.k (vec_len s.pairs) (omega arith) within in
     let turn = mul_comm s.width (vec_len s.pairs) in
@@ -38,18 +41,22 @@ overflow_add-from-2 c =
 pub returns : goal.returns
 returns c =
     let s = c.self.inside in
-    let there : (c.args.from + c.args.i) < length s.pairs.items = rw (← c.self.view_is, length-corner_recs s.width s.pairs.items s.values.items) at c.requires.there in
+    let there : (c.args.from + c.args.i) < length s.pairs.items =
+    rw (← c.self.view_is, length-corner_recs s.width s.pairs.items s.values.items) at c.requires.there in
     let within : c.args.k < s.width = rw (← c.self.view_is) at c.requires.within in
     let place = mul-add-lt (c.args.from + c.args.i) s.width c.args.k (vec_len s.pairs) (omega arith) within in
     let turn = mul_comm s.width (vec_len s.pairs) in
-    let stands : (c.args.from + c.args.i) * s.width + c.args.k < length s.values.items = omega (arith, c.self.invariant.rows) in
+    let stands : (c.args.from + c.args.i) * s.width + c.args.k < length s.values.items =
+    omega (arith, c.self.invariant.rows) in
     let fits : FitsSigned w64 c.index.result.now = search rules in
     rw (← c.self.view_is, to_z-of_z w64 c.index.result.now fits)
     (value-corner_recs s.width s.pairs.items s.values.items (c.args.from + c.args.i) c.args.k there within
-    ∙ ap (λ (o : Option ℤ). Some o) (read_at s.values.items ((c.args.from + c.args.i) * s.width + c.args.k) c.index.result.now stands c.index.ensures))
+    ∙ ap (λ (o : Option ℤ). Some o) (read_at s.values.items ((c.args.from + c.args.i) * s.width + c.args.k)
+    c.index.result.now stands c.index.ensures))
 
 pub overflow_add-from : goal.overflow_add-from
 overflow_add-from c =
     let s = c.self.inside in
-    let there : c.args.from + c.args.i < length s.pairs.items = rw (← c.self.view_is, length-corner_recs s.width s.pairs.items s.values.items) at c.requires.there in
+    let there : c.args.from + c.args.i < length s.pairs.items =
+    rw (← c.self.view_is, length-corner_recs s.width s.pairs.items s.values.items) at c.requires.there in
     omega arith

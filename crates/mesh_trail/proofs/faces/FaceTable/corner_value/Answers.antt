@@ -14,20 +14,27 @@ pub value-requires-clause-there : goal.value-requires-clause-there
 value-requires-clause-there c =
     let t = c.self.inside in
     let is = sym c.body.ensures ∙ c.in-Some.is in
-    let less : c.args.i < length (corners_of (noted (map_notes (face_of t.corners.corners) t.spans.names) c.args.name)) = rw (← c.self.view_is) at c.requires.there in
-    let count = face_count t.corners.corners t.corners.longest t.spans.names c.args.name c.in-Some.span c.self.invariant is in
-    let within = face_within (length t.corners.corners) t.corners.longest t.spans.names c.args.name c.in-Some.span c.self.invariant is in
+    let less : c.args.i < length (corners_of (noted (map_notes (face_of t.corners.corners) t.spans.names) c.args.name))
+    = rw (← c.self.view_is) at c.requires.there in
+    let count = face_count t.corners.corners t.corners.longest t.spans.names c.args.name c.in-Some.span c.self.invariant
+    is in
+    let within = face_within (length t.corners.corners) t.corners.longest t.spans.names c.args.name c.in-Some.span
+    c.self.invariant is in
     omega arith
 
 pub returns-in-Some : goal.returns-in-Some
 returns-in-Some c =
     let t = c.self.inside in
     let is = sym c.body.ensures ∙ c.in-Some.is in
-    let less : c.args.i < length (corners_of (noted (map_notes (face_of t.corners.corners) t.spans.names) c.args.name)) = rw (← c.self.view_is) at c.requires.there in
+    let less : c.args.i < length (corners_of (noted (map_notes (face_of t.corners.corners) t.spans.names) c.args.name))
+    = rw (← c.self.view_is) at c.requires.there in
     let fits : FitsSigned w64 c.value.result = search rules in
-    rw (← c.self.view_is, to_z-of_z w64 c.value.result fits) (ap (λ (o : Option CornerRec). option_map (λ r. slice_get r.vals c.args.k) o) (face_corner t.corners.corners t.spans.names c.args.name c.args.i c.in-Some.span is less) ∙ c.value.ensures)
+    rw (← c.self.view_is, to_z-of_z w64 c.value.result fits)
+    (ap (λ (o : Option CornerRec). option_map (λ r. slice_get r.vals c.args.k) o)
+    (face_corner t.corners.corners t.spans.names c.args.name c.args.i c.in-Some.span is less) ∙ c.value.ensures)
 
 pub returns-in-None : goal.returns-in-None
 returns-in-None c =
     let t = c.self.inside in
-    none_face t.corners.corners t.spans.names c.args.name c.args.i (sym c.body.ensures ∙ c.in-None.is) (rw (← c.self.view_is) at c.requires.there)
+    none_face t.corners.corners t.spans.names c.args.name c.args.i (sym c.body.ensures ∙ c.in-None.is)
+    (rw (← c.self.view_is) at c.requires.there)

@@ -4,4 +4,5 @@ use Rattle.mesh_trail.proofs.MapNotes.{len-map_notes}
 use Rattle.mesh_trail.proofs.faces.FaceTable.len.Goals as goal
 
 pub returns : goal.returns
-returns c = rw (← c.self.view_is) (c.len.ensures ∙ sym (len-map_notes (face_of c.self.inside.corners.corners) c.self.inside.spans.names))
+returns c = rw (← c.self.view_is) (c.len.ensures
+    ∙ sym (len-map_notes (face_of c.self.inside.corners.corners) c.self.inside.spans.names))

@@ -10,7 +10,10 @@ use Rattle.mesh_trail.proofs.MapNotes.{map_notes-empty}
 use Rattle.mesh_trail.proofs.faces.FaceTable.new.Goals as goal
 
 pub invariant_of-result : goal.invariant_of-result
-invariant_of-result c = λ name r at_name. absurd (none-some (Some r) (sym (get-empty nat_cmp name) ∙ sym (ap (λ (m : Notes (Span × List ℤ)). get m name) c.new.ensures.names) ∙ at_name))
+invariant_of-result c = λ name r at_name.
+    absurd (none-some (Some r) (sym (get-empty nat_cmp name)
+    ∙ sym (ap (λ (m : Notes (Span × List ℤ)). get m name) c.new.ensures.names) ∙ at_name))
 
 pub returns-clause-names : goal.returns-clause-names
-returns-clause-names c = ap (λ (m : Notes (Span × List ℤ)). map_notes (face_of c.new-2.result.corners) m) c.new.ensures.names ∙ map_notes-empty (face_of c.new-2.result.corners)
+returns-clause-names c = ap (λ (m : Notes (Span × List ℤ)). map_notes (face_of c.new-2.result.corners) m)
+    c.new.ensures.names ∙ map_notes-empty (face_of c.new-2.result.corners)

@@ -6,9 +6,12 @@ use Rattle.mesh_trail.proofs.MapNotes.{some-map_notes, mapped-map_notes}
 use Rattle.mesh_trail.proofs.past.Past.vert_value.Goals as goal
 
 pub value-requires-clause-there : goal.value-requires-clause-there
-value-requires-clause-there c = some-map_notes vert_of c.self.inside.verts.names c.args.v.0 (rw (← c.self.view_is) at c.requires.there)
+value-requires-clause-there c = some-map_notes vert_of c.self.inside.verts.names c.args.v.0
+    (rw (← c.self.view_is) at c.requires.there)
 
 pub returns : goal.returns
 returns c =
     let fits : FitsSigned w64 c.value.result = search rules in
-    rw (← c.self.view_is, to_z-of_z w64 c.value.result fits) (mapped-map_notes vert_of (λ r. slice_get r.vals c.args.k) c.self.inside.verts.names c.args.v.0 _ c.value.ensures)
+    rw (← c.self.view_is, to_z-of_z w64 c.value.result fits)
+    (mapped-map_notes vert_of (λ r. slice_get r.vals c.args.k) c.self.inside.verts.names c.args.v.0 _
+    c.value.ensures)

@@ -4,7 +4,9 @@ use Rattle.mesh_trail.proofs.MapNotes.{absent-map_notes}
 use Rattle.mesh_trail.proofs.past.Past.was_absent.Goals as goal
 
 pub returns-in-Vert : goal.returns-in-Vert
-returns-in-Vert c = rw (← c.self.view_is, c.in-Vert.is) (c.was_absent.ensures ∙ sym (absent-map_notes vert_of c.self.inside.verts.names c.in-Vert.v.0))
+returns-in-Vert c = rw (← c.self.view_is, c.in-Vert.is) (c.was_absent.ensures
+    ∙ sym (absent-map_notes vert_of c.self.inside.verts.names c.in-Vert.v.0))
 
 pub returns-in-Edge : goal.returns-in-Edge
-returns-in-Edge c = rw (← c.self.view_is, c.in-Edge.is) (c.was_absent-in-Edge.ensures ∙ sym (absent-map_notes edge_of c.self.inside.edges.names c.in-Edge.e.0))
+returns-in-Edge c = rw (← c.self.view_is, c.in-Edge.is) (c.was_absent-in-Edge.ensures
+    ∙ sym (absent-map_notes edge_of c.self.inside.edges.names c.in-Edge.e.0))

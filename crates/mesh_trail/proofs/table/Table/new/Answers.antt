@@ -11,10 +11,13 @@ use Rattle.mesh_trail.proofs.table.Table.new.Goals as goal
 
 pub invariant_of-result : goal.invariant_of-result
 invariant_of-result g c = record {
-  within = λ name k at_name. absurd (none-some (Some k) (sym (get-empty nat_cmp name) ∙ sym (ap (λ (m : Notes (Kept g.row.B.Denot)). get m name) c.new.ensures) ∙ at_name));
+  within = λ name k at_name. absurd (none-some (Some k) (sym (get-empty nat_cmp name)
+      ∙ sym (ap (λ (m : Notes (Kept g.row.B.Denot)). get m name) c.new.ensures) ∙ at_name));
   names_room = omega arith;
   values_room = omega arith;
 }
 
 pub returns-clause-names : goal.returns-clause-names
-returns-clause-names g c = ap (λ (m : Notes (Kept g.row.B.Denot)). map_notes (kept_row c.args.width c.new-2.result.items) m) c.new.ensures ∙ map_notes-empty (kept_row c.args.width c.new-2.result.items)
+returns-clause-names g c = ap (λ (m : Notes (Kept g.row.B.Denot)). map_notes
+    (kept_row c.args.width c.new-2.result.items) m) c.new.ensures
+    ∙ map_notes-empty (kept_row c.args.width c.new-2.result.items)

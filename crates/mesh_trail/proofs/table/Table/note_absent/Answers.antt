@@ -14,9 +14,11 @@ invariant_of-self-2 g c =
     let row = kept_row {B = g.row.B.Denot} t.width t.values.items in
     let none : get (map_notes row t.map.names) c.args.name ≡ None = rw (← c.self.view_is) at c.requires in
     record {
-      within = rw (c.in_ok-note.ensures.ok) (absent_within t.width (vec_len t.values) t.map.names c.args.name c.self.invariant.within (none-map_notes row t.map.names c.args.name none));
+      within = rw (c.in_ok-note.ensures.ok) (absent_within t.width (vec_len t.values) t.map.names c.args.name
+          c.self.invariant.within (none-map_notes row t.map.names c.args.name none));
       names_room = omega (arith, c.in_ok-note.ensures.room);
-      values_room = rw c.saturating_sub-self-inside.ensures (room_less (vec_len t.values) t.spare t.width (vec_capacity t.values) c.self.invariant.values_room);
+      values_room = rw c.saturating_sub-self-inside.ensures
+          (room_less (vec_len t.values) t.spare t.width (vec_capacity t.values) c.self.invariant.values_room);
     }
 
 pub returns-clause-ok : goal.returns-clause-ok
