@@ -2,6 +2,8 @@
 #![tactic(auto)]
 
 #[cfg(test)]
+mod confirm;
+#[cfg(test)]
 mod lists;
 #[cfg(test)]
 mod words;

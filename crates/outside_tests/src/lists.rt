@@ -1,3 +1,6 @@
+//! Lists.
+
+use crate::confirm::confirm;
 use sequence::{NoMemory, Sequence, Text};
 use std::alloc::Global;
 use std::test::Fail;
@@ -17,47 +20,98 @@ fn numbers(alloc: Global, count: u32) -> Result<Sequence<u32>, NoMemory> {
     Ok(list)
 }
 
+// Whether a list of three numbers and its copy are in order.
+fn are_in_order(alloc: Global) -> Result<[bool; 2], NoMemory> {
+    let list = numbers(alloc, 3)?;
+    let copy = list.copy()?;
+    let wanted = [0, 1, 2];
+    Ok([
+        list.as_slice() == wanted.as_slice(),
+        copy.as_slice() == wanted.as_slice(),
+    ])
+}
+
 #[test]
 fn a_list_in_order(rt: HostRuntime) -> Result<(), Fail> {
-    let list = numbers(rt.alloc(), 3)?;
-    assert!(rt; !list.is_empty());
-    assert_eq!(rt; list.len(), 3);
-    assert_eq!(rt; list.as_slice(), [0, 1, 2].as_slice());
-    assert_eq!(rt; list.iter().count(), 3);
-    let copy = list.copy()?;
-    assert_eq!(rt; copy.as_slice(), [0, 1, 2].as_slice());
-    assert_eq!(rt; Sequence::from(Vec::from(list)).len(), 3);
+    let are_in_order = are_in_order(rt.alloc())?;
+    confirm(&rt, "in order", are_in_order == [true; 2]);
     Ok(())
+}
+
+// The length of a list of three numbers, told by itself, by its iterator and by the vector that it becomes.
+fn lengths(alloc: Global) -> Result<[usize; 3], NoMemory> {
+    let list = numbers(alloc, 3)?;
+    let told = list.len();
+    let met = list.iter().count();
+    Ok([told, met, Vec::from(list).len()])
+}
+
+#[test]
+fn a_list_has_a_length(rt: HostRuntime) -> Result<(), Fail> {
+    let lengths = lengths(rt.alloc())?;
+    confirm(&rt, "three", lengths == [3; 3]);
+    Ok(())
+}
+
+// The length of the copy of a list of a million numbers, and its last number.
+fn copied(alloc: Global) -> Result<(usize, Option<u32>), NoMemory> {
+    let list = numbers(alloc, 1_000_000)?;
+    let copy = list.copy()?;
+    let last = copy.as_slice().last().copied();
+    Ok((copy.len(), last))
 }
 
 #[test]
 fn a_long_list(rt: HostRuntime) -> Result<(), Fail> {
-    let list = numbers(rt.alloc(), 1_000_000)?;
-    let copy = list.copy()?;
-    assert_eq!(rt; copy.len(), 1_000_000);
-    assert_eq!(rt; copy.as_slice().get(999_999), Some(&999_999));
+    let (len, last) = copied(rt.alloc())?;
+    confirm(&rt, "its length", len == 1_000_000);
+    confirm(&rt, "its last number", last == Some(999_999));
     Ok(())
+}
+
+// The copy of a list of colours is equal to it.
+fn colours_are_equal(alloc: Global) -> Result<bool, NoMemory> {
+    let colours = [Colour::Red, Colour::Grey(7)];
+    let list = Sequence::of(alloc, &colours)?;
+    let copy = list.copy()?;
+    Ok(copy.as_slice() == colours.as_slice())
 }
 
 #[test]
 fn colours_are_copied(rt: HostRuntime) -> Result<(), Fail> {
-    let colours = Sequence::of(rt.alloc(), &[Colour::Red, Colour::Grey(7)])?;
-    let copy = colours.copy()?;
-    assert_eq!(rt; copy.as_slice(), [Colour::Red, Colour::Grey(7)].as_slice());
+    let equal = colours_are_equal(rt.alloc())?;
+    confirm(&rt, "equal", equal);
     Ok(())
+}
+
+// A list of two texts, of which the second one is empty.
+fn texts(alloc: Global) -> Result<Sequence<Text>, NoMemory> {
+    let mut text = Text::of(alloc, b"one")?;
+    text.append(b" more")?;
+    let mut texts = Sequence::new(alloc);
+    texts.push(text)?;
+    texts.push(Text::new(alloc))?;
+    Ok(texts)
+}
+
+// Whether a list has these two texts.
+fn are_texts(texts: &[Text]) -> bool {
+    match texts {
+        [one, two] => one.as_slice() == b"one more".as_slice() && two.is_empty(),
+        _ => false,
+    }
+}
+
+// Whether the copy of a list of texts has the same texts.
+fn texts_are_equal(alloc: Global) -> Result<bool, NoMemory> {
+    let texts = texts(alloc)?;
+    let copy = texts.copy()?;
+    Ok(are_texts(copy.as_slice()))
 }
 
 #[test]
 fn a_list_of_texts_is_copied(rt: HostRuntime) -> Result<(), Fail> {
-    let mut text = Text::of(rt.alloc(), b"one")?;
-    text.append(b" more")?;
-    let mut texts = Sequence::new(rt.alloc());
-    texts.push(text)?;
-    texts.push(Text::new(rt.alloc()))?;
-    let copy = texts.copy()?;
-    assert_eq!(rt; copy.len(), 2);
-    for (text, wanted) in copy.iter().zip([b"one more".as_slice(), b"".as_slice()]) {
-        assert_eq!(rt; text.as_slice(), wanted);
-    }
+    let equal = texts_are_equal(rt.alloc())?;
+    confirm(&rt, "equal", equal);
     Ok(())
 }
