@@ -1,0 +1,10 @@
+use Rattle.std.proofs.Common.{subst}
+use Rattle.mesh_core.specs.Seen.{NameLists}
+use Rattle.mesh_core.specs.StandsFor.{CyclesHold}
+use Rattle.mesh_core.proofs.Stands.{stands_for}
+use Rattle.mesh_core.proofs.mesh.Mesh.cycles_hold.Goals as goal
+
+pub returns : goal.returns
+returns c =
+    let lists : NameLists = record { materials = c.self.inside.materials; libraries = c.self.inside.libraries } in
+    subst CyclesHold c.self.view_is (stands_for c.self.inside.store c.self.inside.next lists c.self.invariant)
