@@ -1,3 +1,5 @@
 pub mod EachLemmas
 pub mod TextLemmas
 pub mod NumberLemmas
+pub mod OutcomeLemmas
+pub mod TrimLemmas

@@ -1,5 +1,5 @@
 -- Lines, words and numbers of a text.
-use Rattle.std.specs.Prelude.{ℕ, ℤ, pos, neg_ℤ, ◌+◌, ◌-◌, ◌*◌, ◌^◌, ◌==◌, ◌&&◌, ◌||◌, Bool, not, nat_eq, nat_lt, nat_le, min, if◌then◌else◌, List, [], ◌∷◌, length}
+use Rattle.std.specs.Prelude.{ℕ, ℤ, pos, neg_ℤ, ◌+◌, ◌-◌, ◌*◌, ◌^◌, ◌==◌, ◌&&◌, ◌||◌, Bool, not, nat_eq, nat_lt, nat_le, min, if◌then◌else◌, List, [], ◌∷◌, length, take, drop, position}
 use Rattle.std.specs.List.{slice_split, filter, list_all}
 use Rattle.std.specs.Option.{option_map}
 use Rattle.std.specs.declared.option.Option.{Option}
@@ -9,6 +9,10 @@ use lib.Pointwise.{pointwise}
 -- the parts of a text between the bytes that are a separator
 abbrev pub parts_of : ℕ → List ℕ → List (List ℕ)
 parts_of separator text = slice_split (λ b. b == separator) text
+
+-- the bytes before the first separator and those behind it, or None where there is none
+abbrev pub cut : ℕ → List ℕ → Option (List ℕ × List ℕ)
+cut separator text = option_map (λ k. (take k text, drop (k + 1) text)) (position (λ b. b == separator) text)
 
 -- the lines of a text: its parts between line feeds
 abbrev pub lines : List ℕ → List (List ℕ)
@@ -50,6 +54,10 @@ natural most ds = if are_digits most ds then Some (value ds) else None
 -- the number that digits spell, or the greatest that is wanted where it is greater, or None for any other text
 abbrev pub capped : ℕ → List ℕ → Option ℕ
 capped most ds = if is_numeral ds then Some (min most (value ds)) else None
+
+-- the number that digits spell, where it is at most so great, or None for any other text
+abbrev pub up_to : ℕ → List ℕ → Option ℕ
+up_to most ds = if not (is_numeral ds) then None else (if nat_le (value ds) most then Some (value ds) else None)
 
 -- the number that an optional minus and 1 to so many digits spell, or None for any other word
 abbrev pub integer : ℕ → List ℕ → Option ℤ

@@ -1,7 +1,7 @@
 //! Numbers that decimal digits spell.
 ghost use Rattle.std.specs.Prelude.{◌≡◌, ◌≤◌, ◌<◌, ◌^◌, ◌<ℤ◌, pos, neg_ℤ, true, length, min, IfSome};
 ghost use Rattle.std.specs.List.{list_all};
-ghost use Rattle.text_words.specs.Text.{is_digit, are_digits, is_numeral, value, natural, capped, integer};
+ghost use Rattle.text_words.specs.Text.{is_digit, are_digits, is_numeral, value, natural, capped, up_to, integer};
 
 /// The number that one or more decimal digits spell, or `most` where it is greater; None where the
 /// bytes aren't such digits. There may be any number of them. Takes time in proportion to the bytes.
@@ -10,6 +10,23 @@ pub fn capped(ds: &[u8], most: u64) -> Option<u64>
 {
     if is_numeral(ds) {
         Some(capped_value(ds, most))
+    } else {
+        None
+    }
+}
+
+/// The number that one or more decimal digits spell, or None where the bytes aren't such digits or it is above
+/// `most`. There may be any number of them. Takes time in proportion to the bytes.
+pub fn up_to(ds: &[u8], most: u32) -> Option<u32>
+    ensures same { result ≡ up_to most ds.now }
+    ensures below { IfSome result (λ n. n ≤ most) }
+{
+    if !is_numeral(ds) {
+        return None;
+    }
+    let n = capped_value(ds, most as u64 + 1);
+    if n <= most as u64 {
+        Some(n as u32)
     } else {
         None
     }

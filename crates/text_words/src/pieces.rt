@@ -1,7 +1,7 @@
 //! A text in pieces: its lines, its words, the parts between separators.
-ghost use Rattle.std.specs.Prelude.{◌≡◌, map, IfOk};
+ghost use Rattle.std.specs.Prelude.{◌≡◌, ◌<◌, ◌==◌, map, length, position, option_map, IfOk, IfSome};
 ghost use Rattle.std.specs.List.{filter, slice_split};
-ghost use Rattle.text_words.specs.Text.{lines, parts_of, is_blank, is_word, words, is_text};
+ghost use Rattle.text_words.specs.Text.{lines, parts_of, is_blank, is_word, words, cut, is_text};
 
 use std::alloc::{AllocError, Global};
 
@@ -53,10 +53,29 @@ fn is_word(part: &[u8]) -> bool
     !part.is_empty()
 }
 
-fn is_blank(b: u8) -> bool
+pub(crate) fn is_blank(b: u8) -> bool
     ensures { result ≡ is_blank b }
 {
     b == b' ' || b == b'\t' || b == b'\r'
+}
+
+/// The bytes before the first separator and those behind it, or None where there is none. Takes time in
+/// proportion to the first part.
+pub fn cut(text: &[u8], separator: u8) -> Option<(&[u8], &[u8])>
+    ensures { option_map (λ p. (p.0.now, p.1.now)) result ≡ cut separator text.now }
+{
+    match place_of(text, separator) {
+        Some(k) => Some((&text[..k], &text[k + 1..])),
+        None => None,
+    }
+}
+
+// The place of the first separator.
+fn place_of(text: &[u8], separator: u8) -> Option<usize>
+    ensures same { result ≡ position (λ b. b == separator) text.now }
+    ensures within { IfSome result (λ k. k < length text.now) }
+{
+    text.iter().position(|b| *b == separator)
 }
 
 /// Whether a word is a given text, byte by byte.
