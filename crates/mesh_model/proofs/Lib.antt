@@ -42,7 +42,6 @@ pub mod Renamings
 pub mod Splices
 pub mod SeparateVerts
 pub mod SeparateCorners
-pub mod Mappings
 pub mod Polygons
 pub mod GivenRows
 pub mod GivenNumbers

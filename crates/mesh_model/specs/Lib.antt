@@ -16,7 +16,6 @@ pub mod Euler
 pub mod Splice
 pub mod Naming
 pub mod Words
-pub mod Mapping
 pub mod Models
 pub mod Rows
 pub mod ValueRows

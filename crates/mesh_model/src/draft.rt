@@ -1,4 +1,5 @@
-ghost use Rattle.std.specs.Prelude.{◌≡◌, ◌≢◌, ◌+◌, ◌<◌, ◌≤◌, pos, IsTrue, length, map, IfOk, OnOk, OnErr};
+ghost use Rattle.std.specs.Prelude.{◌≡◌, ◌≢◌, ◌+◌, ◌<◌, ◌≤◌, ◌++◌, ◌∷◌, [], pos, IsTrue, length, map};
+ghost use Rattle.std.specs.Prelude.{IfOk, OnOk, OnErr};
 ghost use Rattle.std.specs.List.{All, list_all};
 ghost use Rattle.mesh_model.specs.Table.{IsThere};
 ghost use Rattle.mesh_model.specs.Complex.{no_complex, new_model, corner_sum};
@@ -8,7 +9,7 @@ ghost use Rattle.mesh_model.specs.Valid.{is_on_grid, is_in_range, is_material, i
 ghost use Rattle.mesh_model.specs.Valid.{IsValid, IsSimple};
 ghost use Rattle.mesh_model.specs.Draft.{due_model, with_name};
 
-use crate::draft_names::name_number;
+use crate::draft_names::{name_number, push_name};
 use crate::draft_polygons::{edge_in, polygon_in};
 use crate::draft_rows::{face_row, zero_row};
 use crate::edge_columns::EdgeColumns;
@@ -199,6 +200,21 @@ impl Draft {
         Ok(number as i64 + 1)
     }
 
+    /// Appends a material, and answers its number, counted from 1. It doesn't look whether the name is there already, as
+    /// `material_number` does, and so takes time that grows with the name alone: it is for callers who keep an index of
+    /// the names.
+    pub fn push_material(&mut self, name: &[u8]) -> Result<i64, NoMemory>
+        ensures number { IfOk result (λ n. n ≡ pos (length self.old.materials + 1)) }
+        ensures ok { OnOk result (self.new
+            ≡ record self.old { materials = self.old.materials ++ name.now ∷ [] }) }
+        ensures err { OnErr result (self.new ≡ self.old) }
+        ensures valid { IsValid self.old → IsValid self.new }
+        ensures simple { IsSimple self.old → IsSimple self.new }
+    {
+        let place = push_name(self.alloc, &mut self.materials, name)?;
+        Ok(place as i64 + 1)
+    }
+
     /// Appends a library of materials if it is new.
     pub fn add_library(&mut self, name: &[u8]) -> Result<(), NoMemory>
         ensures ok { OnOk result (self.new
@@ -208,6 +224,19 @@ impl Draft {
         ensures simple { IsSimple self.old → IsSimple self.new }
     {
         name_number(self.alloc, &mut self.libraries, name)?;
+        Ok(())
+    }
+
+    /// Appends a library of materials. It doesn't look whether the name is there already, as `add_library` does, and so
+    /// takes time that grows with the name alone: it is for callers who keep an index of the names.
+    pub fn push_library(&mut self, name: &[u8]) -> Result<(), NoMemory>
+        ensures ok { OnOk result (self.new
+            ≡ record self.old { libraries = self.old.libraries ++ name.now ∷ [] }) }
+        ensures err { OnErr result (self.new ≡ self.old) }
+        ensures valid { IsValid self.old → IsValid self.new }
+        ensures simple { IsSimple self.old → IsSimple self.new }
+    {
+        push_name(self.alloc, &mut self.libraries, name)?;
         Ok(())
     }
 }

@@ -1,6 +1,6 @@
-//! Lists of names without repeats.
+//! Lists of names.
 
-ghost use Rattle.std.specs.Prelude.{◌≡◌, ◌<◌, ◌^◌, length, IfSome, IfOk, OnOk, OnErr};
+ghost use Rattle.std.specs.Prelude.{◌≡◌, ◌<◌, ◌^◌, ◌++◌, ◌∷◌, [], length, IfSome, IfOk, OnOk, OnErr};
 ghost use Rattle.std.specs.List.{position};
 ghost use Rattle.cust_data.specs.Layers.{same_name};
 ghost use Rattle.mesh_model.specs.Draft.{with_name};
@@ -27,12 +27,27 @@ pub(crate) fn name_number(
     }
     match place_of(names, name) {
         Some(place) => Ok(place),
-        None => {
-            let place = names.len();
-            names.push(Text::of(alloc, name)?)?;
-            Ok(place)
-        }
+        None => push_name(alloc, names, name),
     }
+}
+
+/// Appends a name, and answers its position from 0. After `NoMemory` the names are as before.
+pub(crate) fn push_name(
+    alloc: Global,
+    names: &mut Sequence<Text>,
+    name: &[u8],
+) -> Result<usize, NoMemory>
+    ensures number { IfOk result (λ k. k ≡ length names.old) }
+    ensures small { IfOk result (λ k. k < MOST) }
+    ensures ok { OnOk result (names.new ≡ names.old ++ name.now ∷ []) }
+    ensures err { OnErr result (names.new ≡ names.old) }
+{
+    let place = names.len();
+    if place >= MOST {
+        return Err(NoMemory);
+    }
+    names.push(Text::of(alloc, name)?)?;
+    Ok(place)
 }
 
 // The position of a name from 0.

@@ -21,7 +21,6 @@ mod names;
 mod records;
 mod refusal;
 mod shape;
-pub mod slots;
 mod vert_columns;
 
 pub use cust_data::Rule;

@@ -5,8 +5,8 @@ use Rattle.std.specs.List.{All, cons_option}
 use Rattle.std.proofs.lemmas.List.Elements.{All-push, filter_map-append}
 use Rattle.mesh_model.specs.Complex.{Complex}
 use Rattle.mesh_model.specs.Valid.{IsSound}
-use Rattle.mesh_session.specs.State.{State, bindings_of, state_with, IsSoundState, next_state}
-use Rattle.mesh_session.specs.declared.entry.Binding.{Binding}
+use Rattle.mesh_session.specs.State.{State, bindings_of, IsSoundState, next_state}
+use Rattle.op_slots.specs.declared.bindings.Binding.{Binding}
 use Rattle.mesh_session.specs.declared.entry.Entry.{Entry}
 
 one : (b : Option Binding) → cons_option b [] ≡ option_to_list b
@@ -30,12 +30,3 @@ IsSoundState-next_state s new b next is h sound =
       redo = λ k d less. absurd (omega arith);
       bindings = rw h.bindings (sym (bindings_of-push s.undo (record { complex = s.now; binding = b })));
     })
-
--- the view of a session that went on
-pub state_with-next : (now next : Complex) (undo redo : List Entry) (b : Option Binding)
-    → state_with next (undo ++ record { complex = now; binding = b } ∷ []) []
-    ≡ next_state (state_with now undo redo) b next
-state_with-next now next undo redo b =
-    let more : List Entry = undo ++ record { complex = now; binding = b } ∷ [] in
-    ap (λ (bs : List Binding). record { now = next; bindings = bs; undo = more; redo = [] })
-    (bindings_of-push undo (record { complex = now; binding = b }))

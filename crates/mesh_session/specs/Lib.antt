@@ -1,4 +1,3 @@
-pub mod Arguments
 pub mod Operators
 pub mod State
 pub mod Steps

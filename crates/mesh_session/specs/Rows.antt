@@ -7,18 +7,19 @@ use Rattle.mesh_model.specs.Models.{square, vert}
 use Rattle.mesh_model.specs.declared.names.Elem.{Elem}
 use Rattle.mesh_model.specs.declared.names.Elem.TheVariants.{Vert, Edge}
 use Rattle.mesh_model.specs.declared.refusal.Why.{Why}
-use Rattle.mesh_model.specs.declared.refusal.Why.TheVariants.{NoSuch, WrongKind, Empty}
+use Rattle.mesh_model.specs.declared.refusal.Why.TheVariants.{NoSuch, NoSlot, WrongKind, Empty}
 use Rattle.mesh_model.specs.declared.refusal.Place.TheVariants as place
-use Rattle.mesh_model.specs.declared.slots.Term.{Term}
-use Rattle.mesh_model.specs.declared.slots.Term.TheVariants.{One}
-use Rattle.mesh_model.specs.declared.slots.Op.TheVariants.{Delete}
-use Rattle.mesh_model.specs.declared.slots.Context.TheVariants.{Verts}
-use Rattle.mesh_model.specs.declared.slots.What.TheVariants.{Run}
-use Rattle.mesh_model.specs.declared.slots.Command.{Command}
-use Rattle.mesh_session.specs.Operators.{no_slots}
+use Rattle.mesh_model.specs.declared.names.Kind.TheVariants as kind
+use Rattle.op_slots.specs.declared.bindings.Binding.{Binding}
+use Rattle.op_slots.specs.declared.term.Term.{Term}
+use Rattle.op_slots.specs.declared.term.Term.TheVariants.{One, Range, Slot}
+use Rattle.op_slots.specs.declared.op.Op.TheVariants.{Delete}
+use Rattle.op_slots.specs.declared.op.Context.TheVariants.{Verts}
+use Rattle.op_slots.specs.declared.command.What.TheVariants.{Run, Undo}
+use Rattle.op_slots.specs.declared.command.Command.{Command}
+use Rattle.mesh_session.specs.Operators.{no_slots, unable}
 use Rattle.mesh_session.specs.State.{State, first_state, fresh_state}
 use Rattle.mesh_session.specs.Steps.{step, steps}
-use Rattle.mesh_session.specs.declared.entry.Binding.{Binding}
 use Rattle.mesh_session.specs.declared.reply.Reply.{Reply}
 use Rattle.mesh_session.specs.declared.reply.Reply.TheVariants.{Done, Refused}
 
@@ -63,6 +64,26 @@ BindsItsSlots =
         redo = [];
       },
     )
+
+-- a name that is bound stands for its slots, here for nothing, and isn't bound again; another one isn't bound
+abbrev pub NamesStandForSlots : Type 0
+NamesStandForSlots =
+    let cut = (step (first_state square) (record (deletes 1 (vert_term 0 ∷ [])) { bind = Some (codes "gone") })).1 in
+    (step cut (deletes 2 (Slot (codes "gone") None ∷ [])) ≡ (Refused (record { why = Empty; place = place.Nowhere }), cut))
+    × (step cut (deletes 2 (Slot (codes "other") None ∷ []))
+    ≡ (Refused (record { why = NoSlot; place = place.Nowhere }), cut))
+    × (step cut (record (deletes 2 (vert_term 1 ∷ [])) { bind = Some (codes "gone") }) ≡ (Refused unable, cut))
+
+-- a range stands for the vertices that are there, each once
+abbrev pub DeletesARange : Type 0
+DeletesARange =
+    step (first_state square) (deletes 1 (Range kind.Verts 2 9 ∷ vert_term 3 ∷ []))
+    ≡ (Done no_slots, state_after (without_verts square (vert 2 ∷ vert 3 ∷ [])) (square ∷ []))
+
+-- what can't be done so far is refused
+abbrev pub RefusesTheRest : Type 0
+RefusesTheRest =
+    step (first_state square) (record { line = 1; bind = None; what = Undo }) ≡ (Refused unable, first_state square)
 
 -- a vertex that isn't there is refused by its name, the first in the order written, and the state is the same
 abbrev pub RefusesAMissingVertex : Type 0

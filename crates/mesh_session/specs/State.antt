@@ -4,7 +4,7 @@ use Rattle.std.specs.declared.option.Option.{Option}
 use Rattle.std.specs.List.{All, filter_map}
 use Rattle.mesh_model.specs.Complex.{Complex, no_complex}
 use Rattle.mesh_model.specs.Valid.{IsSound}
-use Rattle.mesh_session.specs.declared.entry.Binding.{Binding}
+use Rattle.op_slots.specs.declared.bindings.Binding.{Binding}
 use Rattle.mesh_session.specs.declared.entry.Entry.{Entry}
 
 -- the complex now, the bindings in the order made, and the entries that undo and redo go to, the next one last
@@ -30,9 +30,9 @@ first_state c = record { now = c; bindings = []; undo = []; redo = [] }
 abbrev pub bindings_of : List Entry → List Binding
 bindings_of entries = filter_map (λ (e : Entry). e.binding) entries
 
--- the state of a complex and two lists of entries: what is bound now is what undo would take away
-abbrev pub state_with : Complex → List Entry → List Entry → State
-state_with now undo redo = record { now = now; bindings = bindings_of undo; undo = undo; redo = redo }
+-- the state of a complex, its bindings and two lists of entries
+abbrev pub state_with : Complex → List Binding → List Entry → List Entry → State
+state_with now bindings undo redo = record { now = now; bindings = bindings; undo = undo; redo = redo }
 
 -- each complex of a session is valid and simple, and what is bound now is what undo would take away
 pub record IsSoundState (s : State) : Type 0 where

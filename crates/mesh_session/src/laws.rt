@@ -1,7 +1,8 @@
 //! Commands on the square, worked out. The checker proves each statement, and no call does anything.
 
 ghost use Rattle.mesh_session.specs.Rows.{BindsItsSlots, CutsACorner, DeletesOnce, NoCommand};
-ghost use Rattle.mesh_session.specs.Rows.{RefusesAMissingVertex, RefusesOtherTerms};
+ghost use Rattle.mesh_session.specs.Rows.{RefusesAMissingVertex, RefusesOtherTerms, NamesStandForSlots};
+ghost use Rattle.mesh_session.specs.Rows.{DeletesARange, RefusesTheRest};
 
 /// Single commands, done and refused.
 pub fn single()
@@ -9,6 +10,13 @@ pub fn single()
     ensures binds { BindsItsSlots }
     ensures missing { RefusesAMissingVertex }
     ensures kinds { RefusesOtherTerms }
+{}
+
+/// Names, ranges, and what can't be done so far.
+pub fn arguments()
+    ensures names { NamesStandForSlots }
+    ensures range { DeletesARange }
+    ensures rest { RefusesTheRest }
 {}
 
 /// Lists of commands.

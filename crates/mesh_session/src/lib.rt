@@ -1,7 +1,6 @@
 //! Commands on a complex, with undo.
 #![tactic(auto)]
 
-mod arguments;
 mod entry;
 pub mod laws;
 mod reply;

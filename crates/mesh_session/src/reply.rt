@@ -1,12 +1,12 @@
 //! What a command answers.
 
 ghost use Rattle.std.specs.Prelude.{◌≡◌, IfOk};
-ghost use Rattle.mesh_session.specs.Operators.{no_slots};
+ghost use Rattle.mesh_session.specs.Operators.{no_slots, unable};
 ghost use Rattle.mesh_session.specs.Steps.{binding_of};
 
-use crate::entry::Binding;
-use mesh_model::slots::{Buffer, Mapping, Slots};
-use mesh_model::{NoMemory, Refusal, Text};
+use mesh_model::{Place, Refusal, Why};
+use op_slots::{Binding, Buffer, Mapping, Slots};
+use sequence::{NoMemory, Text};
 use std::alloc::Global;
 
 /// The answer to a command.
@@ -16,6 +16,16 @@ pub enum Reply {
     Done(Slots),
     /// The command was refused, and nothing has changed.
     Refused(Refusal),
+}
+
+// The refusal of a command that a session can't do so far.
+pub fn unable() -> Refusal
+    ensures { result ≡ unable }
+{
+    Refusal {
+        why: Why::BadValue,
+        place: Place::Nowhere,
+    }
 }
 
 // The slots of a command that gives back no elements. Takes no memory.
@@ -35,18 +45,23 @@ pub fn binding_of(name: &Option<Text>, slots: &Slots) -> Result<Option<Binding>,
     match name {
         Some(name) => {
             let name = name.copy()?;
-            let slots = copy_of(slots)?;
+            let slots = slots.copy()?;
             Ok(Some(Binding { name, slots }))
         }
         None => Ok(None),
     }
 }
 
-// Equal slots, in time proportional to their names.
-fn copy_of(slots: &Slots) -> Result<Slots, NoMemory>
-    ensures { IfOk result (λ s. s ≡ slots.now) }
+// An equal binding, if there is one.
+pub fn copy_of(binding: &Option<Binding>) -> Result<Option<Binding>, NoMemory>
+    ensures { IfOk result (λ b. b ≡ binding.now) }
 {
-    let geom = slots.geom.copy()?;
-    let map = slots.map.copy()?;
-    Ok(Slots { geom, map })
+    match binding {
+        Some(binding) => {
+            let name = binding.name.copy()?;
+            let slots = binding.slots.copy()?;
+            Ok(Some(Binding { name, slots }))
+        }
+        None => Ok(None),
+    }
 }

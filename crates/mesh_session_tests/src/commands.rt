@@ -3,10 +3,11 @@ ghost use Rattle.mesh_model.specs.Valid.{IsSound};
 
 use crate::confirm::confirm;
 use crate::told::{Answer, answer_of, counts, edge, least, verts};
-use mesh_model::slots::{Command, Context, Expr, Op, Term, What};
-use mesh_model::{Draft, EdgeName, Elem, FaceName, NoMemory, Place, Refusal, VertName, Why};
+use mesh_model::{Draft, EdgeName, Elem, FaceName, Place, Refusal, VertName, Why};
 use mesh_session::Session;
+use op_slots::{Command, Context, Expr, Op, Term, What};
 use sample_drafts::square;
+use sequence::NoMemory;
 use std::alloc::Global;
 use std::process::Abort;
 use std::test::Fail;

@@ -1,4 +1,4 @@
-//! Tests of drafts, of what reads a shape, of slots, and of the laws of complexes.
+//! Tests of drafts, of what reads a shape, and of the laws of complexes.
 //!
 //! They stand apart from `mesh_model`, since a crate is proved a second time with its tests.
 #![tactic(auto)]
@@ -17,7 +17,5 @@ mod laws;
 mod many;
 #[cfg(test)]
 mod reading;
-#[cfg(test)]
-mod slots;
 #[cfg(test)]
 mod texts;

@@ -1,3 +1,4 @@
+pub mod EachLemmas
 pub mod ScriptLemmas
-pub mod TermLemmas
-pub mod SpellingLemmas
+pub mod LayerLemmas
+pub mod BuiltLemmas

@@ -32,7 +32,7 @@ pub enum ScriptWhy {
     TooLarge = 10,
     /// A layer can't be declared so.
     BadLayer = 11,
-    /// The text is longer than is read so far, or a line isn't of a form that is read so far.
+    /// A word asks for what a session can't do yet.
     NotYet = 12,
 }
 

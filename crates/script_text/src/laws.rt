@@ -1,17 +1,21 @@
 //! Laws of the definitions. Each function does nothing, and its contract is the law.
-ghost use Rattle.script_text.specs.Spelling.{CommandsReturn};
-ghost use Rattle.script_text.specs.Rows.{OneCommand, TwoCommands, NoCommand, UnknownWord, NearlyRight};
+ghost use Rattle.script_text.specs.Rows.{Commands, Faults, Later, Values, Declarations};
+ghost use Rattle.script_text.specs.Laws.{OnlyWhatIsBuilt};
 
 /// What some small scripts are.
 pub fn rows()
-    ensures one { OneCommand }
-    ensures two { TwoCommands }
-    ensures none { NoCommand }
-    ensures unknown { UnknownWord }
-    ensures nearly { NearlyRight }
+    ensures commands { Commands }
+    ensures faults { Faults }
+    ensures later { Later }
 {}
 
-/// Commands that are spelled out, line after line, are read again.
-pub fn spelled_commands_return()
-    ensures { CommandsReturn }
+/// What some arguments and declarations are.
+pub fn parts()
+    ensures values { Values }
+    ensures declarations { Declarations }
+{}
+
+/// A session can do each command of a script so far.
+pub fn built()
+    ensures { OnlyWhatIsBuilt }
 {}

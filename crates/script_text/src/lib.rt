@@ -1,15 +1,24 @@
-//! Scripts: texts whose lines are commands.
+//! Scripts: texts whose lines declare layers and give commands.
 //!
-//! The language so far: each line is empty or `delete geom=TERMS context=verts` with single spaces,
-//! TERMS being 1 to 4,096 words `vN` separated by commas, N of 1 to 9 digits.
+//! A byte other than a tab, a line feed, a carriage return and 32 to 126 is no text. `#` begins a comment. Lines
+//! without words are skipped. The other lines are `layer KIND NAME width=W rule=R`, `undo`, `redo`, and
+//! `OP KEY=VALUE ..` with or without `NAME =` before it, keys in any order.
 #![tactic(auto)]
 
+mod arguments;
+mod built;
+mod commands;
 mod fault;
 pub mod laws;
-mod line;
+mod layers;
+mod lines;
+mod maps;
 mod parsing;
+mod rowed;
 mod script;
+mod table;
 mod terms;
+mod values;
 
 pub use fault::{ScriptFault, ScriptRefusal, ScriptWhy};
 pub use parsing::{LONGEST_SCRIPT, parse};

@@ -1,0 +1,192 @@
+//! The verdicts of many texts.
+
+use crate::confirm::confirm;
+use script_text::{ScriptFault, parse};
+use sequence::NoMemory;
+use std::alloc::Global;
+use std::test::Fail;
+use text_words::{cut, lines};
+
+// A row is a verdict, a colon and a text: `ok` where the text is a script, else the line and the word of its
+// refusal. A bar stands for a line feed in the text.
+const ROWS: &[u8] = b"\
+ok:\n\
+ok: \t\r\n\
+ok:# only a comment\n\
+ok:|# so|\n\
+ok:delete geom=v0\n\
+ok:delete geom=v0 context=verts\n\
+ok:delete context=verts geom=v0,v007,v999999999\n\
+ok:  delete\tgeom=all # everything\r\n\
+ok:delete geom=v0#x\n\
+ok:delete geom=v3-v3\n\
+ok:delete geom=v003-v3\n\
+ok:delete geom=e0,f1-f2,all.v,all.e,all.f,$a,$b_2.verts,$c.edges,$d.faces\n\
+ok:delete geom=v0,v0,v0\n\
+ok:delete geom=v0||delete geom=v1|\n\
+ok:a = delete geom=v0\n\
+ok:a = delete geom=v0|A = delete geom=$a|a_ = delete geom=$A.verts\n\
+ok:undo = delete geom=v0\n\
+ok:layer = delete geom=all # so\n\
+ok:abcdefghijklmnopqrstuvwxyzabcdefghijklmnopqrstuvwxyzABCDEFGHI_0 = delete geom=v0\n\
+ok:delete geom=$abcdefghijklmnopqrstuvwxyzabcdefghijklmnopqrstuvwxyzABCDEFGHI_0\n\
+1 NotYet:undo\n\
+1 NotYet:redo # so\n\
+1 NotYet:undo x\n\
+1 NotYet:a = undo\n\
+1 NotYet:a = redo geom=v0\n\
+1 NotYet:layer\n\
+1 NotYet:layer points\n\
+1 NotYet:layer verts w width=1 rule=mix\n\
+1 NotYet:delete geom=e0 context=edges\n\
+1 NotYet:delete geom=e0 context=edges_faces\n\
+1 NotYet:delete geom=f0 context=faces_only\n\
+1 NotYet:delete context=faces geom=\n\
+1 NotYet:delete geom=f0 context=faces_keep_boundary\n\
+1 NotYet:make_vert at=1,-2,3\n\
+1 NotYet:make_edge verts=v0,v1\n\
+1 NotYet:make_face verts=v0,v1,v2\n\
+1 NotYet:set values=1,-2,3,4 layer=x geom=all of=corners\n\
+1 NotYet:translate verts=$a by=0,0,64\n\
+1 NotYet:scale verts=all about=0,0,0 num=3 den=2\n\
+1 NotYet:mirror verts=all axis=y about=-0\n\
+1 NotYet:reverse faces=f0\n\
+1 NotYet:duplicate geom=all\n\
+1 NotYet:split geom=f0,v1\n\
+1 NotYet:connect verts=v0,v2\n\
+1 NotYet:dissolve_edges edges=e0\n\
+1 NotYet:dissolve_faces faces=all\n\
+1 NotYet:dissolve_verts verts=v1\n\
+1 NotYet:extrude_region faces=all.f\n\
+1 NotYet:extrude_edges edges=$a.edges\n\
+1 NotYet:extrude_verts verts=v0\n\
+1 NotYet:bridge b=all a=e0\n\
+1 NotYet:subdivide edges=e0 cuts=1\n\
+1 NotYet:weld map=v0:v1,v2:v1\n\
+1 NotYet:merge_doubles verts=all dist=999999999999999999\n\
+1 NotYet:collapse edges=e0,e1\n\
+1 NotYet:edge_split edges=all\n\
+1 NotYet:triangulate method=fan faces=all\n\
+1 NotYet:poke\n\
+1 NotYet:a = poke faces=\n\
+3 NotYet:|delete geom=v0|undo|x\x01\n\
+1 NotText:delete geom=v0\x01\n\
+1 NotText:# \x80\n\
+1 NotText:x \0\n\
+1 NotText:\x7f\n\
+1 NotText:undo\x0b\n\
+2 NotText:delete geom=v0|layer \x01\n\
+1 UnknownWord:Delete geom=v0\n\
+1 UnknownWord:deletes geom=v0\n\
+1 UnknownWord:geom=v0 delete\n\
+1 UnknownWord:delete v0\n\
+1 UnknownWord:delete geo=v0\n\
+1 UnknownWord:delete =v0\n\
+1 UnknownWord:delete geom=v0 verts=v1\n\
+1 UnknownWord:delete geom=v0 context=vert\n\
+1 UnknownWord:delete context=\n\
+1 UnknownWord:delete context=verts=\n\
+1 UnknownWord:delete x geom=\n\
+1 UnknownWord:delete layer = delete\n\
+1 UnknownWord:= x\n\
+1 UnknownWord:x = foo geom=\n\
+1 UnknownWord:a = layer verts w width=1 rule=mix\n\
+1 UnknownWord:layers verts w width=1 rule=mix\n\
+1 UnknownWord:undo=\n\
+1 UnknownWord:a=delete geom=v0\n\
+1 MissingArgument:delete\n\
+1 MissingArgument:delete context=verts\n\
+1 MissingArgument:a = delete # geom=v0\n\
+1 MissingArgument:a =\n\
+1 MissingArgument:undo =\n\
+1 MissingArgument:layer =\n\
+1 TwiceGiven:delete geom=v0 geom=v1\n\
+1 TwiceGiven:delete geom=v0 geom=\n\
+1 TwiceGiven:delete context=verts context=faces geom=v0\n\
+1 BadExpression:delete geom=\n\
+1 BadExpression:delete geom= x\n\
+1 BadExpression:delete geom=v\n\
+1 BadExpression:delete geom=V0\n\
+1 BadExpression:delete geom=v0,\n\
+1 BadExpression:delete geom=,v0\n\
+1 BadExpression:delete geom=v1-v0\n\
+1 BadExpression:delete geom=v0-e1\n\
+1 BadExpression:delete geom=v0-1\n\
+1 BadExpression:delete geom=v0-v1-v2\n\
+1 BadExpression:delete geom=v-1\n\
+1 BadExpression:delete geom=v1234567890\n\
+1 BadExpression:delete geom=c0\n\
+1 BadExpression:delete geom=x geom=v0\n\
+1 BadExpression:delete geom=$\n\
+1 BadExpression:delete geom=$1a\n\
+1 BadExpression:delete geom=$a.\n\
+1 BadExpression:delete geom=$a.map\n\
+1 BadExpression:delete geom=$a.verts.verts\n\
+1 BadExpression:delete geom=$abcdefghijklmnopqrstuvwxyzabcdefghijklmnopqrstuvwxyzABCDEFGHIJ_0\n\
+1 BadExpression:delete geom=all.x\n\
+1 BadExpression:delete geom=all.corners\n\
+1 BadExpression:delete geom=v0:v1\n\
+1 BadExpression:= = x\n\
+1 BadExpression:1a = foo\n\
+1 BadExpression:_a = delete geom=v0\n\
+1 BadExpression:a-b = delete geom=v0\n\
+1 BadExpression:a.b =\n\
+1 BadExpression:abcdefghijklmnopqrstuvwxyzabcdefghijklmnopqrstuvwxyzABCDEFGHIJ_0 = delete geom=v0\n\
+2 Rebound:a = delete geom=v0|a = delete geom=v1\n\
+2 Rebound:a = delete geom=v0|a =\n\
+4 Rebound:a = delete geom=v0|b = delete geom=v0||b = undo\n\
+2 LateLayer:delete geom=v0|layer\n\
+3 LateLayer:delete geom=v0|# so|layer points\n\
+2 UnknownWord:delete geom=v0|Delete|delete\n\
+2 UnknownWord:a = delete geom=v0|b = a";
+
+// What a text is: `ok`, or the line and the word of its refusal.
+fn verdict_of(alloc: Global, text: &[u8]) -> Result<String, NoMemory> {
+    match parse(alloc, text) {
+        Ok(_) => String::from_str(alloc, "ok"),
+        Err(ScriptFault::Refused(refusal)) => {
+            format!(in alloc; "{} {}", refusal.line, refusal.why)
+        }
+        Err(ScriptFault::NoMemory) => Err(NoMemory),
+    }
+}
+
+// A text with line feeds for bars.
+fn unbarred(alloc: Global, text: &[u8]) -> Result<Vec<u8>, NoMemory> {
+    let mut bytes = Vec::new(alloc);
+    for b in text {
+        bytes.push(if *b == b'|' { b'\n' } else { *b })?;
+    }
+    Ok(bytes)
+}
+
+// Whether a row's text has its verdict.
+fn holds(alloc: Global, row: &[u8]) -> Result<bool, NoMemory> {
+    match cut(row, b':') {
+        Some((wanted, text)) => {
+            let text = unbarred(alloc, text)?;
+            let verdict = verdict_of(alloc, &text)?;
+            Ok(verdict.as_bytes() == wanted)
+        }
+        None => Ok(false),
+    }
+}
+
+// The place of the first row that doesn't hold, or the number of rows.
+fn first_other(alloc: Global, rows: &[&[u8]]) -> Result<usize, NoMemory> {
+    for (k, row) in rows.iter().enumerate() {
+        if !holds(alloc, row)? {
+            return Ok(k);
+        }
+    }
+    Ok(rows.len())
+}
+
+#[test]
+fn texts_have_their_verdicts(rt: HostRuntime) -> Result<(), Fail> {
+    let rows = lines(rt.alloc(), ROWS)?;
+    confirm(&rt, "there are rows", rows.len() > 120);
+    let other = first_other(rt.alloc(), &rows)?;
+    confirm(&rt, "each row holds", other == rows.len());
+    Ok(())
+}
