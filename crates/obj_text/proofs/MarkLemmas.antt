@@ -1,9 +1,10 @@
 -- Lemmas on marks and on distinct vertices.
 use Rattle.std.proofs.Common.{◌≡◌, ◌≢◌, ℕ, ◌+◌, ◌<◌, Bool, true, false, not, ◌&&◌, ◌||◌, eqb, List, [], ◌∷◌, ◌++◌}
-use Rattle.std.proofs.Common.{length, get_or, map, take, drop, set, refl, sym, ap, ◌∙◌, inl, inr, arith, true≢false}
+use Rattle.std.proofs.Common.{length, get_or, take, drop, set, refl, sym, ap, ◌∙◌, inl, inr, arith, true≢false}
+use Rattle.std.specs.List.{All}
 use Rattle.std.specs.Cmp.{nat_eq_equiv}
 use Rattle.std.proofs.Math.Bool.{or-false, or-true, and-false}
-use Rattle.std.proofs.lemmas.List.{take_more, get_or-map, length-map, get_or-set_same, get_or-set_other}
+use Rattle.std.proofs.lemmas.List.{take_more, get_or-set_same, get_or-set_other}
 use Rattle.std.proofs.lemmas.List.{take-append-drop, length-set}
 use Rattle.std.proofs.lemmas.List.Folds.{list_any-append}
 use Rattle.std.proofs.lemmas.Bool.{eq-eqb}
@@ -11,7 +12,6 @@ use Rattle.std.proofs.lemmas.Bool.Decides.{eqb_tells}
 use Rattle.mesh_model.specs.Elements.{is_among}
 use Rattle.mesh_model.specs.Valid.{are_distinct}
 use Rattle.mesh_model.specs.declared.names.VertName.{VertName}
-use Rattle.obj_text.specs.Obj.{vert_at}
 
 -- the vertex of a number
 abbrev named : ℕ → VertName
@@ -39,8 +39,8 @@ repeats_with : (v : VertName) (vs us : List VertName) (a : Bool) → is_among vs
     → (not (is_among (vs ++ us) v) && are_distinct (vs ++ us)) ≡ false
 repeats_with v vs us true among h grows =
     ap (λ (b : Bool). not b && are_distinct (vs ++ us)) (among_grows vs us v.0 among)
-repeats_with v vs us false among h grows = ap (λ (b : Bool). not (is_among (vs ++ us) v) && b) (grows h)
-    ∙ and-false (not (is_among (vs ++ us) v))
+repeats_with v vs us false among h grows =
+    ap (λ (b : Bool). not (is_among (vs ++ us) v) && b) (grows h) ∙ and-false (not (is_among (vs ++ us) v))
 
 pub repeats_grows : (vs us : List VertName) → are_distinct vs ≡ false → are_distinct (vs ++ us) ≡ false
 repeats_grows [] us h = absurd (true≢false h)
@@ -76,58 +76,60 @@ marked_more mark vs v marks here h = record {
       let within : n < length marks = omega (arith, length-set marks v.0 mark) in
       elim (eqb_tells v.0 n) [
         | inl e ↦
-            let now : get_or (set marks v.0 mark) n 0 ≡ mark = ap (λ (k : ℕ). get_or (set marks v.0 mark) k 0) (sym e.1)
-            ∙ get_or-set_same marks v.0 mark 0 here in
-            let among : is_among (vs ++ v ∷ []) (named n) ≡ true = is_among_push vs v n
-            ∙ ap (λ (b : Bool). is_among vs (named n) || b) e.0 ∙ or-true (is_among vs (named n)) in
+            let now : get_or (set marks v.0 mark) n 0 ≡ mark =
+            ap (λ (k : ℕ). get_or (set marks v.0 mark) k 0) (sym e.1) ∙ get_or-set_same marks v.0 mark 0 here in
+            let among : is_among (vs ++ v ∷ []) (named n) ≡ true =
+            is_among_push vs v n ∙ ap (λ (b : Bool). is_among vs (named n) || b) e.0
+            ∙ or-true (is_among vs (named n)) in
             eq-eqb (get_or (set marks v.0 mark) n 0) mark now ∙ sym among
         | inr e ↦
             let now : get_or (set marks v.0 mark) n 0 ≡ get_or marks n 0 =
             get_or-set_other marks v.0 n mark 0 (λ s. e.1 (sym s)) in
-            let among : is_among (vs ++ v ∷ []) (named n) ≡ is_among vs (named n) = is_among_push vs v n
-            ∙ ap (λ (b : Bool). is_among vs (named n) || b) e.0 ∙ or-false (is_among vs (named n)) in
+            let among : is_among (vs ++ v ∷ []) (named n) ≡ is_among vs (named n) =
+            is_among_push vs v n ∙ ap (λ (b : Bool). is_among vs (named n) || b) e.0
+            ∙ or-false (is_among vs (named n)) in
             ap (λ (m : ℕ). eqb m mark) now ∙ h.are n within ∙ sym among
       ];
 }
 
--- THE LOOP OVER INDICES
+-- THE LOOP OVER VERTICES
 
--- one index more
-pub take_more_vert : (indices : List ℕ) (i x : ℕ) → i < length indices → get_or indices i 0 ≡ x
-    → take (i + 1) (map vert_at indices) ≡ take i (map vert_at indices) ++ vert_at x ∷ []
-take_more_vert indices i x here at =
-    let within : i < length (map vert_at indices) = rw length-map here in
-    take_more (map vert_at indices) i (vert_at x) within
-    ∙ ap (λ (v : VertName). take i (map vert_at indices) ++ v ∷ []) (get_or-map vert_at indices i 0 (vert_at x) here
-    ∙ ap vert_at at)
+-- one vertex more
+pub take_more_vert : (vs : List VertName) (i : ℕ) (v : VertName) → i < length vs → get_or vs i v ≡ v
+    → take (i + 1) vs ≡ take i vs ++ v ∷ []
+take_more_vert vs i v here at = take_more vs i v here ∙ ap (λ (u : VertName). take i vs ++ u ∷ []) at
 
 -- a vertex that has the mark stands twice
-pub marked_twice : (mark : ℕ) (indices : List ℕ) (i x : ℕ) (marks : List ℕ) → i < length indices
-    → get_or indices i 0 ≡ x → Marked mark (take i (map vert_at indices)) marks → (vert_at x).0 < length marks
-    → get_or marks (vert_at x).0 0 ≡ mark → are_distinct (map vert_at indices) ≡ false
-marked_twice mark indices i x marks here at h within found =
-    let vs = map vert_at indices in
-    let among : is_among (take i vs) (vert_at x) ≡ true = sym (h.are (vert_at x).0 within)
-    ∙ eq-eqb (get_or marks (vert_at x).0 0) mark found in
+pub marked_twice : (mark : ℕ) (vs : List VertName) (i : ℕ) (v : VertName) (marks : List ℕ) → i < length vs
+    → get_or vs i v ≡ v → Marked mark (take i vs) marks → v.0 < length marks → get_or marks v.0 0 ≡ mark
+    → are_distinct vs ≡ false
+marked_twice mark vs i v marks here at h within found =
+    let among : is_among (take i vs) v ≡ true = sym (h.are v.0 within) ∙ eq-eqb (get_or marks v.0 0) mark found in
     let some : are_distinct (take (i + 1) vs) ≡ false =
-    ap are_distinct (take_more_vert indices i x here at) ∙ distinct_push (take i vs) (vert_at x)
+    ap are_distinct (take_more_vert vs i v here at) ∙ distinct_push (take i vs) v
     ∙ ap (λ (b : Bool). are_distinct (take i vs) && not b) among ∙ and-false (are_distinct (take i vs)) in
     ap are_distinct (sym (take-append-drop (i + 1) vs)) ∙ repeats_grows (take (i + 1) vs) (drop (i + 1) vs) some
 
 -- a vertex that hasn't stands once so far
-pub marked_once : (mark : ℕ) (indices : List ℕ) (i x : ℕ) (marks : List ℕ) → i < length indices → get_or indices i 0 ≡ x
-    → Marked mark (take i (map vert_at indices)) marks → are_distinct (take i (map vert_at indices)) ≡ true
-    → (vert_at x).0 < length marks
-    → get_or marks (vert_at x).0 0 ≢ mark → are_distinct (take (i + 1) (map vert_at indices)) ≡ true
-marked_once mark indices i x marks here at h distinct within other =
-    let vs = map vert_at indices in
-    let among : is_among (take i vs) (vert_at x) ≡ false = sym (h.are (vert_at x).0 within)
-    ∙ differ_false (get_or marks (vert_at x).0 0) mark other in
-    ap are_distinct (take_more_vert indices i x here at) ∙ distinct_push (take i vs) (vert_at x)
-    ∙ ap (λ (b : Bool). b && not (is_among (take i vs) (vert_at x))) distinct ∙ ap not among
+pub marked_once : (mark : ℕ) (vs : List VertName) (i : ℕ) (v : VertName) (marks : List ℕ) → i < length vs
+    → get_or vs i v ≡ v → Marked mark (take i vs) marks → are_distinct (take i vs) ≡ true → v.0 < length marks
+    → get_or marks v.0 0 ≢ mark → are_distinct (take (i + 1) vs) ≡ true
+marked_once mark vs i v marks here at h distinct within other =
+    let among : is_among (take i vs) v ≡ false =
+    sym (h.are v.0 within) ∙ differ_false (get_or marks v.0 0) mark other in
+    ap are_distinct (take_more_vert vs i v here at) ∙ distinct_push (take i vs) v
+    ∙ ap (λ (b : Bool). b && not (is_among (take i vs) v)) distinct ∙ ap not among
 
-pub marked_next : (mark : ℕ) (indices : List ℕ) (i x : ℕ) (marks : List ℕ) → i < length indices → get_or indices i 0 ≡ x
-    → Marked mark (take i (map vert_at indices)) marks → (vert_at x).0 < length marks
-    → Marked mark (take (i + 1) (map vert_at indices)) (set marks (vert_at x).0 mark)
-marked_next mark indices i x marks here at h within =
-    rw (take_more_vert indices i x here at) (marked_more mark (take i (map vert_at indices)) (vert_at x) marks within h)
+-- the marks after one vertex more
+pub marked_next : (mark : ℕ) (vs : List VertName) (i : ℕ) (v : VertName) (marks : List ℕ) → i < length vs
+    → get_or vs i v ≡ v → Marked mark (take i vs) marks → v.0 < length marks
+    → Marked mark (take (i + 1) vs) (set marks v.0 mark)
+marked_next mark vs i v marks here at h within =
+    rw (take_more_vert vs i v here at) (marked_more mark (take i vs) v marks within h)
+
+-- a mark that is new stands nowhere
+pub none_marked : (mark : ℕ) (marks : List ℕ) → All (λ m. m < mark) marks → Marked mark [] marks
+none_marked mark marks fresh = record {
+  are =
+      λ n less. differ_false (get_or marks n 0) mark (λ same. absurd (omega (arith, fresh n 0 less, same)));
+}

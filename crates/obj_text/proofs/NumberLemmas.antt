@@ -1,5 +1,9 @@
 -- Lemmas on powers of ten.
-use Rattle.std.proofs.Common.{◌≡◌, ◌+◌, ◌≤◌, ◌<◌, ◌^◌, ℕ, ℤ, pos, negsuc, neg_ℤ, ◌*ℤ◌, ◌<ℤ◌, unsigned_abs, refl, arith}
+use Rattle.std.proofs.Common.{◌≡◌, ◌++◌, ◌∙◌, ◌-◌, zero, suc, List, length, take, codes, ap}
+use Rattle.std.specs.Fmt.{decimal}
+use Rattle.std.specs.List.{repeat}
+use Rattle.obj_text.specs.Written.{wide_decimal}
+use Rattle.std.proofs.Common.{◌+◌, ◌≤◌, ◌<◌, ◌^◌, ℕ, ℤ, pos, negsuc, neg_ℤ, ◌*ℤ◌, ◌<ℤ◌, unsigned_abs, refl, arith}
 use Rattle.std.proofs.Common.{lit<}
 use Rattle.std.specs.Int.RustNames.{FitsSigned}
 use Rattle.std.proofs.lemmas.Int.{fits_signed_mul, ints}
@@ -26,3 +30,21 @@ pub units_fit : (scale : ℕ) (n : ℤ) → scale ≤ 6 → neg_ℤ (pos (10 ^ 9
     → FitsSigned w64 (n *ℤ pos (10 ^ scale))
 units_fit scale n h above below =
     fits_signed_mul w64 n (pos (10 ^ scale)) (10 ^ 9) (10 ^ 6) (abs_below n above below) (unit_small scale h) (lit< tt)
+
+-- the first so many of six zeros
+pub zeros_told : (k : ℕ) → k ≤ 6 → take k (codes "000000") ≡ repeat k (codes "0")
+zeros_told zero h = refl
+zeros_told (suc zero) h = refl
+zeros_told (suc (suc zero)) h = refl
+zeros_told (suc (suc (suc zero))) h = refl
+zeros_told (suc (suc (suc (suc zero)))) h = refl
+zeros_told (suc (suc (suc (suc (suc zero))))) h = refl
+zeros_told (suc (suc (suc (suc (suc (suc zero)))))) h = refl
+zeros_told (suc (suc (suc (suc (suc (suc (suc k))))))) h = absurd (omega arith)
+
+-- zeros and digits make a number of the wanted width
+pub wide_told : (width n : ℕ) (digits zeros : List ℕ) → width ≤ 6 → digits ≡ decimal n
+    → zeros ≡ take (width - length digits) (codes "000000") → zeros ++ digits ≡ wide_decimal width n
+wide_told width n digits zeros few is are =
+    ap (λ (t : List ℕ). t ++ digits) (are ∙ zeros_told (width - length digits) (omega arith))
+    ∙ ap (λ (ds : List ℕ). repeat (width - length ds) (codes "0") ++ ds) is

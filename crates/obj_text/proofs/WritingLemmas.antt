@@ -1,6 +1,6 @@
 -- Lemmas on the written text.
-use Rattle.std.proofs.Common.{◌≡◌, ℕ, cond, IfSome, ◌+◌, ◌<◌, ◌≤◌, Bool, true, false, List, [], ◌∷◌, ◌++◌, length}
-use Rattle.std.proofs.Common.{get_or, take, refl, sym, ap, ◌∙◌, arith, Option, Some, None, is_some}
+use Rattle.std.proofs.Common.{◌≡◌, ℕ, cond, ◌+◌, ◌<◌, ◌≤◌, Bool, true, false, List, [], ◌∷◌, ◌++◌, length}
+use Rattle.std.proofs.Common.{get_or, take, refl, sym, ap, ◌∙◌, arith, Option, Some, None, is_some, append_assoc}
 use Rattle.std.specs.List.{flat_map, enumerate_from, slice_get}
 use Rattle.std.specs.Option.{option_map}
 use Rattle.std.proofs.lemmas.List.{take_more, take_all, append-nil, length_push, get_or_append_left}
@@ -127,6 +127,35 @@ pub corner_below : (c : Complex) (f i : ℕ) (k : CornerRec) → IsLinked c
 corner_below c f i k linked get = corner_of_face c f i (at c.faces f) k linked refl get
 
 -- PIECES OF TEXT
+
+-- one piece behind another
+pub then : (a b c x y : List ℕ) → b ≡ a ++ x → c ≡ b ++ y → c ≡ a ++ (x ++ y)
+then a b c x y one two = two ∙ ap (λ (t : List ℕ). t ++ y) one ∙ append_assoc a x y
+
+-- several pieces behind one another
+pub three : (o0 o1 o2 o3 a b c : List ℕ) → o1 ≡ o0 ++ a → o2 ≡ o1 ++ b → o3 ≡ o2 ++ c → o3 ≡ o0 ++ (a ++ (b ++ c))
+three o0 o1 o2 o3 a b c e1 e2 e3 = then o0 o1 o3 a (b ++ c) e1 (then o1 o2 o3 b c e2 e3)
+
+pub five : (o0 o1 o2 o3 o4 o5 a b c d e : List ℕ) → o1 ≡ o0 ++ a → o2 ≡ o1 ++ b → o3 ≡ o2 ++ c → o4 ≡ o3 ++ d
+    → o5 ≡ o4 ++ e → o5 ≡ o0 ++ (a ++ (b ++ (c ++ (d ++ e))))
+five o0 o1 o2 o3 o4 o5 a b c d e e1 e2 e3 e4 e5 =
+    three o0 o1 o2 o5 a b (c ++ (d ++ e)) e1 e2 (three o2 o3 o4 o5 c d e e3 e4 e5)
+
+pub seven : (o0 o1 o2 o3 o4 o5 o6 o7 a b c d e f g : List ℕ) → o1 ≡ o0 ++ a → o2 ≡ o1 ++ b → o3 ≡ o2 ++ c
+    → o4 ≡ o3 ++ d → o5 ≡ o4 ++ e → o6 ≡ o5 ++ f → o7 ≡ o6 ++ g
+    → o7 ≡ o0 ++ (a ++ (b ++ (c ++ (d ++ (e ++ (f ++ g))))))
+seven o0 o1 o2 o3 o4 o5 o6 o7 a b c d e f g e1 e2 e3 e4 e5 e6 e7 =
+    three o0 o1 o2 o7 a b (c ++ (d ++ (e ++ (f ++ g)))) e1 e2 (five o2 o3 o4 o5 o6 o7 c d e f g e3 e4 e5 e6 e7)
+
+-- a piece behind what begins with something else
+pub onto : (start mid out new piece next : List ℕ) → out ≡ start ++ mid → new ≡ out ++ piece → mid ++ piece ≡ next
+    → new ≡ start ++ next
+onto start mid out new piece next so_far made is =
+    then start out new mid piece so_far made ∙ ap (λ (t : List ℕ). start ++ t) is
+
+-- nothing more
+pub no_piece : (out piece : List ℕ) → [] ≡ piece → out ≡ out ++ piece
+no_piece out piece is = sym (append-nil out) ∙ ap (λ (t : List ℕ). out ++ t) is
 
 -- the first so many and the one that stands next
 take_more_get : {X : Type 0} (xs : List X) (i : ℕ) (x : X) → slice_get xs i ≡ Some x

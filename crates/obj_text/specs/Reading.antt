@@ -1,6 +1,5 @@
--- What a reader knows and answers.
-use Rattle.std.specs.Prelude.{◌≡◌, ℕ, ◌<◌, ◌≤◌, List, length}
-use Rattle.std.specs.List.{All}
+-- What a reader knows.
+use Rattle.std.specs.Prelude.{◌≡◌, ℕ, List}
 use Rattle.std.specs.declared.option.Option.{Option}
 use Rattle.std.specs.declared.option.Option.TheVariants.{None, Some}
 
@@ -17,9 +16,3 @@ pub record IsFed (scale : ℕ) (bytes : List ℕ) (r : Reading) : Type 0 where
 -- a reader lacked memory, and only answers that
 abbrev pub IsLost : Reading → Type 0
 IsLost r = r.fed ≡ None
-
--- for each of so many vertices, a number below a bound
-pub record AreMarks (verts bound : ℕ) (marks : List ℕ) : Type 0 where
-  pub some : 0 < bound
-  pub enough : verts ≤ length marks
-  pub below : All (λ m. m < bound) marks

@@ -1,4 +1,4 @@
--- The Wavefront OBJ text of a complex.
+-- The lines of vertices and of loose edges in the Wavefront OBJ text of a complex.
 use Rattle.std.specs.Prelude.{ℕ, ℤ, ◌+◌, ◌-◌, ◌/◌, ◌%◌, ◌^◌, ◌==◌, pos, int_lt, unsigned_abs, if◌then◌else◌, List, []}
 use Rattle.std.specs.Prelude.{◌++◌, length, take, codes}
 use Rattle.std.specs.Fmt.{decimal}
@@ -11,8 +11,6 @@ use Rattle.mesh_model.specs.Incidence.{is_loose}
 use Rattle.mesh_model.specs.declared.records.Point.{Point}
 use Rattle.mesh_model.specs.declared.records.VertRec.{VertRec}
 use Rattle.mesh_model.specs.declared.records.EdgeRec.{EdgeRec}
-use Rattle.mesh_model.specs.declared.records.CornerRec.{CornerRec}
-use Rattle.mesh_model.specs.declared.records.FaceRec.{FaceRec}
 
 -- a number in at least so many digits, with zeros in front
 abbrev pub wide_decimal : ℕ → ℕ → List ℕ
@@ -59,28 +57,3 @@ loose_entry c (n, Some e) = if is_loose c (record { 0 = n }) then loose_line (in
 -- the lines of the loose edges by rising name
 abbrev pub loose_lines : Complex → List ℕ
 loose_lines c = flat_map (loose_entry c) (enumerate_from 0 c.edges)
-
--- a corner as a word, after a space
-abbrev pub corner_word : Complex → CornerRec → List ℕ
-corner_word c k = codes " " ++ decimal (index c k.vert.0)
-
--- the words of a face's corners
-abbrev pub corner_words : Complex → List CornerRec → List ℕ
-corner_words c corners = flat_map (corner_word c) corners
-
--- a line `f A B C ..` for a face
-abbrev pub face_line : Complex → List CornerRec → List ℕ
-face_line c corners = codes "f" ++ (corner_words c corners ++ codes "\n")
-
--- the line of what stands at a face's name
-abbrev pub face_entry : Complex → Option FaceRec → List ℕ
-face_entry c None = []
-face_entry c (Some f) = face_line c f.corners
-
--- the lines of the faces by rising name
-abbrev pub face_lines : Complex → List ℕ
-face_lines c = flat_map (face_entry c) c.faces
-
--- the text: its vertices, its loose edges, its faces
-abbrev pub text : ℕ → Complex → List ℕ
-text scale c = vert_lines scale c ++ (loose_lines c ++ face_lines c)

@@ -1,22 +1,78 @@
-//! Small texts, read and written by hand. The checker proves each statement, and no call does anything.
+//! Laws of the definitions, and small texts, read and written by hand. The checker proves each statement, and no call
+//! does anything.
 
-ghost use Rattle.obj_text.specs.Rows.{SquareRead, ShortRead, WireRefused, IndicesRefused, LaterRefused, BlanksRead};
-ghost use Rattle.obj_text.specs.Rows.{NumbersRefused, ScalesRead, CutSquareWritten, SquareWritten, NumbersWritten};
+ghost use Rattle.obj_text.specs.Limits.{LargeRefused, LongRefused, VertsRefused, TexturesRefused, FacesRefused};
+ghost use Rattle.obj_text.specs.Limits.{CornersRefused, EdgesRefused};
+ghost use Rattle.obj_text.specs.Progress.{StepsRead};
+ghost use Rattle.obj_text.specs.WholeRows.{SampleWritten, PlacesWritten, CubeWritten};
+ghost use Rattle.obj_text.specs.Rows.{LinesJoined, CommentsStand, NumbersRead, NumbersMalformed, NumbersOffGrid};
+ghost use Rattle.obj_text.specs.Rows.{IndicesRead, IndicesBad, CornersRead, CornersBad, NamesRead, SquareRead};
+ghost use Rattle.obj_text.specs.Rows.{ShortRead, SkippedRead, ChainRead, BlanksRead, TexturesRead, FacesSet, FormsRead};
+ghost use Rattle.obj_text.specs.Rows.{NumberFaults, WordFaults, CornerFaults, CutSquareWritten, SquareWritten};
+ghost use Rattle.obj_text.specs.Rows.{NumbersWritten};
+
+/// A text is what its physical lines make, one after another.
+pub fn steps()
+    ensures { StepsRead }
+{}
+
+/// Lines, joined or not.
+pub fn lines()
+    ensures joined { LinesJoined }
+    ensures comments { CommentsStand }
+{}
+
+/// Numbers, as they are read.
+pub fn numbers()
+    ensures read { NumbersRead }
+    ensures malformed { NumbersMalformed }
+    ensures off_grid { NumbersOffGrid }
+{}
+
+/// Indices, corners and names.
+pub fn words()
+    ensures indices { IndicesRead }
+    ensures bad_indices { IndicesBad }
+    ensures corners { CornersRead }
+    ensures bad_corners { CornersBad }
+    ensures names { NamesRead }
+{}
 
 /// Texts that are models.
 pub fn accepted()
     ensures square { SquareRead }
     ensures short { ShortRead }
+    ensures skipped { SkippedRead }
+    ensures chain { ChainRead }
     ensures blanks { BlanksRead }
-    ensures scales { ScalesRead }
+    ensures textures { TexturesRead }
+    ensures faces_set { FacesSet }
+    ensures forms { FormsRead }
 {}
 
-/// Texts that aren't, and at which line.
+/// Texts that aren't, at which line, and why.
 pub fn refused()
-    ensures wire { WireRefused }
-    ensures indices { IndicesRefused }
-    ensures later { LaterRefused }
-    ensures numbers { NumbersRefused }
+    ensures numbers { NumberFaults }
+    ensures words { WordFaults }
+    ensures corners { CornerFaults }
+{}
+
+/// What is too long, or would pass a limit.
+pub fn limits()
+    ensures large { LargeRefused }
+    ensures long { LongRefused }
+    ensures verts { VertsRefused }
+    ensures textures { TexturesRefused }
+    ensures faces { FacesRefused }
+    ensures corners { CornersRefused }
+    ensures edges { EdgesRefused }
+{}
+
+/// Whole texts, read and written again.
+pub fn whole()
+    ensures sample { SampleWritten }
+    ensures places { PlacesWritten }
+    ensures cube { CubeWritten }
 {}
 
 /// Texts as they are written.

@@ -35,7 +35,7 @@ pub enum ObjWhy {
     TooLarge = 11,
     /// A byte that isn't text.
     NotText = 12,
-    /// The text is longer than is read so far, or a line isn't of a form that is read so far.
+    /// A kind of model that isn't read so far. No text is refused for it.
     NotYet = 13,
 }
 

@@ -1,8 +1,17 @@
-//! A text read as a complex.
+//! Reading.
 
-mod faces;
-mod item;
-mod lines;
-mod marks;
+pub mod edges;
+pub mod faces;
+pub mod indices;
+pub mod items;
+pub mod lines;
+pub mod marks;
+pub mod names;
+pub mod numbers;
+pub mod parts;
+pub mod physical;
 pub mod reader;
-mod spelling;
+pub mod settings;
+pub mod statements;
+pub mod table;
+pub mod values;

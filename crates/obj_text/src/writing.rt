@@ -2,7 +2,9 @@
 
 mod face_lines;
 mod loose_lines;
+mod names;
 mod numbers;
+mod places;
 mod ranks;
 mod vert_lines;
 pub mod writer;

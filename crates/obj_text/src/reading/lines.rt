@@ -1,81 +1,106 @@
-//! A line of a model.
-ghost use Rattle.std.specs.Prelude.{◌≡◌, ◌+◌, ◌≤◌, true, Ok, length, IfOk};
-ghost use Rattle.text_words.specs.Text.{words};
-ghost use Rattle.mesh_model.specs.Table.{passes};
-ghost use Rattle.mesh_model.specs.Valid.{IsSound};
-ghost use Rattle.obj_text.specs.Obj.{item_of, fits, with_item, with_any};
-ghost use Rattle.obj_text.specs.Reading.{AreMarks};
+//! Lines of a model: physical lines, joined where one ends with a backslash.
+ghost use Rattle.std.specs.Prelude.{◌≡◌, IfOk};
+ghost use Rattle.obj_text.specs.Lines.{is_hash_first, begins_comment, ends_in_backslash, is_open, shut, onto, bare};
 
-use crate::reading::faces::add_polygon;
-use crate::reading::item::Item;
-use crate::reading::spelling::item_of;
-use mesh_model::limits::MAX_VERTS;
-use mesh_model::{Draft, NoMemory, Point, Shape};
+use mesh_model::{NoMemory, Sequence, Text};
 use std::alloc::Global;
+use text_words::{ByteClass, trim_end, trim_start};
 
-/// Adds what a line says to the draft of the lines before it, and answers whether it is of a form
-/// that is read. The vertices of a face are marked with the line's number.
-pub fn read_line(
-    alloc: Global,
-    scale: u8,
-    draft: &mut Draft,
-    marks: &mut Vec<u32>,
-    number: u32,
-    line: &[u8],
-) -> Result<bool, NoMemory>
-    requires scale { scale ≤ 6 }
-    requires marks { AreMarks (length draft.old.verts) number marks.old.items }
-    ensures known { IfOk result (λ known. known ≡ passes (fits draft.old) (item_of scale (words line.now))) }
-    ensures read { result ≡ Ok true → draft.new ≡ with_any draft.old (item_of scale (words line.now)) }
-    ensures sound { result ≡ Ok true → IsSound draft.old → IsSound draft.new }
-    ensures marks { result ≡ Ok true → AreMarks (length draft.new.verts) (number + 1) marks.new.items }
+/// A line.
+#[derive(Debug, Drop)]
+pub struct Line {
+    /// The number of its first physical line, from 1.
+    pub number: u32,
+    /// Whether it is a comment by itself.
+    pub comment: bool,
+    pub text: Text,
+}
+
+/// Whether a text begins with `#`.
+pub fn is_hash_first(text: &[u8]) -> bool
+    ensures { result ≡ is_hash_first text.now }
 {
-    match item_of(alloc, scale, line)? {
-        Some(item) => add_item(alloc, draft, marks, number, item),
-        None => Ok(false),
+    match text {
+        [b'#', ..] => true,
+        _ => false,
     }
 }
 
-fn add_item(
-    alloc: Global,
-    draft: &mut Draft,
-    marks: &mut Vec<u32>,
-    number: u32,
-    item: Item,
-) -> Result<bool, NoMemory>
-    requires { AreMarks (length draft.old.verts) number marks.old.items }
-    ensures known { IfOk result (λ known. known ≡ fits draft.old item) }
-    ensures read { result ≡ Ok true → draft.new ≡ with_item draft.old item }
-    ensures sound { result ≡ Ok true → IsSound draft.old → IsSound draft.new }
-    ensures marks { result ≡ Ok true → AreMarks (length draft.new.verts) (number + 1) marks.new.items }
+/// Whether the first byte that is no blank is `#`.
+pub fn begins_comment(text: &[u8]) -> bool
+    ensures { result ≡ begins_comment text.now }
 {
-    match item {
-        Item::Nothing => Ok(true),
-        Item::Vertex(p) => add_vertex(draft, marks, number, p),
-        Item::Polygon(indices) => add_polygon(alloc, draft, marks, number, indices.as_slice()),
+    is_hash_first(trim_start(text, ByteClass::Blank))
+}
+
+/// A physical line without carriage returns at its end.
+pub fn bare(text: &[u8]) -> &[u8]
+    ensures { result.now ≡ bare text.now }
+{
+    trim_end(text, ByteClass::CarriageReturn)
+}
+
+/// Whether the last byte is a backslash.
+pub fn ends_in_backslash(text: &[u8]) -> bool
+    ensures { result ≡ ends_in_backslash text.now }
+{
+    0 < text.len() && text[text.len() - 1] == b'\\'
+}
+
+/// Whether a line is joined with the next physical line.
+pub fn is_open(line: &Line) -> bool
+    ensures { result ≡ is_open line.now }
+{
+    !line.comment && ends_in_backslash(line.text.as_slice())
+}
+
+/// A line without its last byte.
+pub fn shut(line: Line) -> Line
+    ensures { result ≡ shut line }
+{
+    let Line {
+        number,
+        comment,
+        text,
+    } = line;
+    let mut bytes = Vec::from(text);
+    bytes.pop();
+    Line {
+        number,
+        comment,
+        text: Sequence::from(bytes),
     }
 }
 
-// Adds a vertex, and answers whether its point lies on the grid and there is room.
-fn add_vertex(
-    draft: &mut Draft,
-    marks: &mut Vec<u32>,
+/// A physical line, joined to what stands before it if something was begun. Takes time in proportion to the
+/// physical line.
+pub fn onto(
+    alloc: Global,
     number: u32,
-    p: Point,
-) -> Result<bool, NoMemory>
-    requires { AreMarks (length draft.old.verts) number marks.old.items }
-    ensures known { IfOk result (λ known. known ≡ fits draft.old (Item.Vertex p)) }
-    ensures added { result ≡ Ok true → draft.new ≡ with_item draft.old (Item.Vertex p) }
-    ensures sound { result ≡ Ok true → IsSound draft.old → IsSound draft.new }
-    ensures marks { result ≡ Ok true → AreMarks (length draft.new.verts) number marks.new.items }
+    begun: Option<Line>,
+    physical: &[u8],
+) -> Result<Line, NoMemory>
+    ensures { IfOk result (λ l. l ≡ onto number begun physical.now) }
 {
-    if !p.is_on_grid() {
-        return Ok(false);
+    match begun {
+        None => {
+            let bytes = physical.to_vec(alloc)?;
+            Ok(Line {
+                number,
+                comment: begins_comment(physical),
+                text: Sequence::from(bytes),
+            })
+        }
+        Some(line) => {
+            let Line { number, text, .. } = line;
+            let mut bytes = Vec::from(text);
+            bytes.push(b' ')?;
+            bytes.extend_from_slice(physical)?;
+            Ok(Line {
+                number,
+                comment: false,
+                text: Sequence::from(bytes),
+            })
+        }
     }
-    if MAX_VERTS <= draft.counters().verts {
-        return Ok(false);
-    }
-    marks.push(0)?;
-    draft.add_vert(p)?;
-    Ok(true)
 }

@@ -1,21 +1,27 @@
 //! A model read piece by piece.
 ghost use Rattle.std.specs.Prelude.{◌≡◌, ◌≤◌, ◌++◌, ℕ, List, Err, [], length, IfOk, OnOk, OnErr, IsErr};
 ghost use Rattle.mesh_model.specs.Valid.{IsSound};
-ghost use Rattle.text_words.specs.Text.{lines};
 ghost use Rattle.text_words.specs.Verdict.{Answers};
 ghost use Rattle.obj_text.specs.Faults.{refusal_of};
-ghost use Rattle.obj_text.specs.Obj.{read_lines, read_text};
+ghost use Rattle.text_words.specs.Outcome.{Gives, steps};
+ghost use Rattle.text_words.specs.Text.{lines};
+ghost use Rattle.obj_text.specs.Lines.{joined};
+ghost use Rattle.obj_text.specs.Obj.{nothing, line_read, model_of, read_text};
+ghost use Rattle.obj_text.specs.Progress.{start, step};
+ghost use Rattle.obj_text.specs.Holding.{AreParts};
 ghost use Rattle.obj_text.specs.Reading.{IsFed, IsLost};
+ghost use Rattle.obj_text.specs.Whole.{BeginsFixed};
 
 use crate::obj_fault::{ObjFault, ObjRefusal, ObjWhy};
-use crate::reading::lines::read_line;
+use crate::reading::marks::Marks;
+use crate::reading::physical::{Progress, finish, read_physical_line};
 use mesh_model::{Draft, NoMemory};
 use std::alloc::{AllocError, Global};
 use std::marker::Model;
-use text_words::lines;
+use text_words::{Stop, cut};
 
 /// The greatest number of bytes that a model has.
-const MOST_BYTES: usize = 65_536;
+const MOST_BYTES: usize = 268_435_456;
 
 /// Reads a model that comes in pieces. Once memory ran out it only answers that.
 #[derive(Drop)]
@@ -69,23 +75,23 @@ impl Reader {
         }
     }
 
-    /// The draft of the text that was fed, or its refusal:
+    /// The draft of the text that was fed, or its refusal: line 0, `TooLarge`, where it has more than 268,435,456
+    /// bytes; otherwise the first line with a fault, counted from 1, and its first fault.
     ///
-    /// - line 0, `NotYet`, where it has more than 65,536 bytes;
-    /// - otherwise the first line, counted from 1, that isn't of a form that is read, `NotYet`.
+    /// Lines end at line feeds; carriage returns before one are dropped. A line whose first byte that is no blank is
+    /// `#` is a comment. Any other that ends with a backslash is joined with the next, and has the number of its
+    /// first. Words stand between spaces, tabs and carriage returns. The faults of a line are tried in this order:
+    /// `NotText` for a byte 0; `UnknownWord` or `FreeForm` for the first word; a wrong number of numbers; the words
+    /// from left to right; `TooShort`; `TooLong`; `Repeated`; `TooMany` where a limit would be passed.
     ///
-    /// Lines end at line feeds, and words at spaces, tabs and carriage returns. A line has no words,
-    /// or is `v` and three numbers of an optional `-` and 1 to 9 digits, which lie on the grid, or `f`
-    /// and 3 to 4,096 indices, numbers of 1 to 7 digits, of distinct vertices read so far, counted from 1.
-    /// Vertices and faces are named from 0 in order, edges in order of first use with the ends in the
-    /// direction of that use.
-    ///
-    /// Takes time in proportion to the text, and for each side of a face to the edges so far.
+    /// Vertices and faces are named from 0 in order, edges in order of first use with the ends in the direction of
+    /// that use. The draft's layers begin with those that every model has from its beginning.
     pub fn end(self) -> Result<Draft, ObjFault>
         ensures told { (scale : ℕ) (bytes : List ℕ) → IsFed scale bytes self
             → Answers refusal_of result (read_text scale bytes) }
         ensures lost { IsLost self → result ≡ Err ObjFault.NoMemory }
         ensures sound { IfOk result (λ d. IsSound d) }
+        ensures fixed { IfOk result (λ d. BeginsFixed d) }
     {
         let Reader { alloc, scale, fed } = self;
         match fed {
@@ -95,42 +101,62 @@ impl Reader {
     }
 }
 
-fn refused(line: u32) -> ObjFault
-    ensures { result ≡ ObjFault.Refused (record { line = line; why = ObjWhy.NotYet }) }
-{
-    ObjFault::Refused(ObjRefusal {
-        line,
-        why: ObjWhy::NotYet,
-    })
-}
-
 // The draft of a text.
 fn read(alloc: Global, scale: u8, text: &[u8]) -> Result<Draft, ObjFault>
     requires { scale ≤ 6 }
     ensures told { Answers refusal_of result (read_text scale text.now) }
     ensures sound { IfOk result (λ d. IsSound d) }
+    ensures fixed { IfOk result (λ d. BeginsFixed d) }
 {
     if MOST_BYTES < text.len() {
-        return Err(refused(0));
+        return Err(ObjFault::Refused(ObjRefusal {
+            line: 0,
+            why: ObjWhy::TooLarge,
+        }));
     }
-    read_lines(alloc, scale, text)
+    match read_lines(alloc, scale as usize, text) {
+        Ok(draft) => Ok(draft),
+        Err(Stop::Fault(refusal)) => Err(ObjFault::Refused(refusal)),
+        Err(Stop::NoMemory) => Err(ObjFault::NoMemory),
+    }
 }
 
 // The draft of the lines of a text that isn't too long.
-fn read_lines(alloc: Global, scale: u8, text: &[u8]) -> Result<Draft, ObjFault>
+fn read_lines(alloc: Global, scale: usize, text: &[u8]) -> Result<Draft, Stop<ObjRefusal>>
     requires scale { scale ≤ 6 }
-    requires short { length text.now ≤ 65536 }
-    ensures told { Answers refusal_of result (read_lines scale (lines text.now)) }
+    requires short { length text.now ≤ 268435456 }
+    ensures told { Gives result (model_of (steps (line_read scale) nothing (joined text.now))) }
     ensures sound { IfOk result (λ d. IsSound d) }
 {
-    let lines = lines(alloc, text)?;
-    let mut draft = Draft::new(alloc);
-    let mut marks = Vec::new(alloc);
-    for (i, line) in lines.iter().enumerate() {
-        let number = i as u32 + 1;
-        if !read_line(alloc, scale, &mut draft, &mut marks, number, line)? {
-            return Err(refused(number));
+    let mut marks = Marks::new(alloc);
+    match read_each(alloc, scale, text, &mut marks) {
+        Ok(progress) => finish(alloc, scale, marks, progress),
+        Err(stop) => Err(stop),
+    }
+}
+
+// What the physical lines of a text make, one after another.
+fn read_each(
+    alloc: Global,
+    scale: usize,
+    text: &[u8],
+    marks: &mut Marks,
+) -> Result<Progress, Stop<ObjRefusal>>
+    requires scale { scale ≤ 6 }
+    requires few { length text.now ≤ 268435456 }
+    ensures told { Gives result (steps (step scale) start (lines text.now)) }
+    ensures parts { IfOk result (λ p. AreParts 268435457 p.parts) }
+{
+    let mut progress = Progress::new(alloc);
+    let mut rest = text;
+    while let Some((line, more)) = cut(rest, b'\n') {
+        match read_physical_line(alloc, scale, line, marks, &mut progress) {
+            Ok(()) => rest = more,
+            Err(stop) => return Err(stop),
         }
     }
-    Ok(draft)
+    match read_physical_line(alloc, scale, rest, marks, &mut progress) {
+        Ok(()) => Ok(progress),
+        Err(stop) => Err(stop),
+    }
 }

@@ -1,41 +1,57 @@
 //! Numbers as they are written.
-ghost use Rattle.std.specs.Prelude.{◌≡◌, ◌≤◌, IfOk};
-ghost use Rattle.std.specs.String.{string_bytes};
+ghost use Rattle.std.specs.Prelude.{◌≡◌, ◌≤◌, ◌++◌, OnOk};
+ghost use Rattle.std.specs.Fmt.{decimal};
 ghost use Rattle.obj_text.specs.Written.{wide_decimal, magnitude, grid_number};
 
+use itoa::Buffer;
 use mesh_model::NoMemory;
-use std::alloc::Global;
 
-/// A number of units with so many decimal places.
-pub fn grid_number(alloc: Global, scale: u8, n: i64) -> Result<String, NoMemory>
-    requires { scale ≤ 6 }
-    ensures { IfOk result (λ t. string_bytes t ≡ grid_number scale n) }
+/// Appends a number in decimal digits.
+pub fn push_decimal(out: &mut Vec<u8>, n: u64) -> Result<(), NoMemory>
+    ensures { OnOk result (out.new.items ≡ out.old.items ++ decimal n) }
 {
-    let size = magnitude(alloc, scale, n.unsigned_abs())?;
+    let mut buffer = Buffer::new();
+    out.extend_from_slice(buffer.format(n).as_bytes())?;
+    Ok(())
+}
+
+/// Appends a number of units with so many decimal places.
+pub fn push_grid_number(out: &mut Vec<u8>, scale: u8, n: i64) -> Result<(), NoMemory>
+    requires { scale ≤ 6 }
+    ensures { OnOk result (out.new.items ≡ out.old.items ++ grid_number scale n) }
+{
     if n < 0 {
-        return format!(in alloc; "-{size}");
+        out.push(b'-')?;
+        push_magnitude(out, scale, n.unsigned_abs())?;
+        return Ok(());
     }
-    Ok(size)
+    push_magnitude(out, scale, n.unsigned_abs())
 }
 
 #[tactic(auto, using(crate::proofs::NumberLemmas::unit_fits, crate::proofs::NumberLemmas::unit_positive))]
-fn magnitude(alloc: Global, scale: u8, n: u64) -> Result<String, NoMemory>
+fn push_magnitude(out: &mut Vec<u8>, scale: u8, n: u64) -> Result<(), NoMemory>
     requires { scale ≤ 6 }
-    ensures { IfOk result (λ t. string_bytes t ≡ magnitude scale n) }
+    ensures { OnOk result (out.new.items ≡ out.old.items ++ magnitude scale n) }
 {
     if scale == 0 {
-        return format!(in alloc; "{n}");
+        return push_decimal(out, n);
     }
     let unit = 10u64.pow(scale as u32);
-    let whole = n / unit;
-    let part = wide_decimal(alloc, scale as usize, n % unit)?;
-    format!(in alloc; "{whole}.{part}")
+    push_decimal(out, n / unit)?;
+    out.push(b'.')?;
+    push_wide(out, scale as usize, n % unit)?;
+    Ok(())
 }
 
-fn wide_decimal(alloc: Global, width: usize, n: u64) -> Result<String, NoMemory>
-    ensures { IfOk result (λ t. string_bytes t ≡ wide_decimal width n) }
+// Appends a number with zeros in front, in at least so many digits.
+fn push_wide(out: &mut Vec<u8>, width: usize, n: u64) -> Result<(), NoMemory>
+    requires { width ≤ 6 }
+    ensures { OnOk result (out.new.items ≡ out.old.items ++ wide_decimal width n) }
 {
-    let digits = format!(in alloc; "{n}")?;
-    let zeros = "0".repeat(alloc, width.saturating_sub(digits.len()))?;
-    format!(in alloc; "{zeros}{digits}")
+    let mut buffer = Buffer::new();
+    let digits = buffer.format(n);
+    let zeros = width.saturating_sub(digits.len());
+    out.extend_from_slice(&b"000000"[..zeros])?;
+    out.extend_from_slice(digits.as_bytes())?;
+    Ok(())
 }

@@ -1,35 +1,50 @@
 //! The lines of the vertices.
-ghost use Rattle.std.specs.Prelude.{◌≡◌, ◌≤◌, IfOk};
-ghost use Rattle.std.specs.String.{string_bytes};
+ghost use Rattle.std.specs.Prelude.{◌≡◌, ◌≤◌, ◌++◌, OnOk};
 ghost use Rattle.mesh_model.specs.Complex.{Complex};
-ghost use Rattle.obj_text.specs.Written.{vert_line, vert_lines};
+ghost use Rattle.mesh_model.specs.Table.{at};
+ghost use Rattle.obj_text.specs.Written.{vert_line, vert_entry, vert_lines};
 
-use crate::writing::numbers::grid_number;
+use crate::writing::numbers::push_grid_number;
 use mesh_model::{Elem, NoMemory, Point, Shape, VertName};
-use std::alloc::Global;
 
-/// A line `v X Y Z` for each vertex, by rising name.
-pub fn vert_lines<S: Shape>(alloc: Global, shape: &S, scale: u8) -> Result<String, NoMemory>
+/// Appends a line `v X Y Z` for each vertex, by rising name.
+pub fn push_verts<S: Shape>(shape: &S, scale: u8, out: &mut Vec<u8>) -> Result<(), NoMemory>
     requires { scale ≤ 6 }
-    ensures { IfOk result (λ t. string_bytes t ≡ vert_lines scale (S.complex shape.now)) }
+    ensures { OnOk result (out.new.items ≡ out.old.items ++ vert_lines scale (S.complex shape.now)) }
 {
-    let mut out = String::new(alloc);
     for n in 0..shape.counters().verts {
-        let v = VertName(n);
-        if shape.has(Elem::Vert(v)) {
-            let line = vert_line(alloc, scale, shape.point(v))?;
-            out.push_str(line.as_str())?;
-        }
+        push_entry(shape, scale, VertName(n), out)?;
     }
-    Ok(out)
+    Ok(())
 }
 
-fn vert_line(alloc: Global, scale: u8, p: Point) -> Result<String, NoMemory>
+// Appends the line of a vertex's name, or nothing.
+fn push_entry<S: Shape>(
+    shape: &S,
+    scale: u8,
+    v: VertName,
+    out: &mut Vec<u8>,
+) -> Result<(), NoMemory>
     requires { scale ≤ 6 }
-    ensures { IfOk result (λ t. string_bytes t ≡ vert_line scale p) }
+    ensures { OnOk result (out.new.items
+        ≡ out.old.items ++ vert_entry scale (at (S.complex shape.now).verts v.0)) }
 {
-    let x = grid_number(alloc, scale, p.x)?;
-    let y = grid_number(alloc, scale, p.y)?;
-    let z = grid_number(alloc, scale, p.z)?;
-    format!(in alloc; "v {x} {y} {z}\n")
+    if !shape.has(Elem::Vert(v)) {
+        return Ok(());
+    }
+    push_vert(out, scale, shape.point(v))
+}
+
+fn push_vert(out: &mut Vec<u8>, scale: u8, p: Point) -> Result<(), NoMemory>
+    requires { scale ≤ 6 }
+    ensures { OnOk result (out.new.items ≡ out.old.items ++ vert_line scale p) }
+{
+    out.extend_from_slice(b"v ")?;
+    push_grid_number(out, scale, p.x)?;
+    out.push(b' ')?;
+    push_grid_number(out, scale, p.y)?;
+    out.push(b' ')?;
+    push_grid_number(out, scale, p.z)?;
+    out.push(b'\n')?;
+    Ok(())
 }

@@ -2,35 +2,42 @@
 ghost use Rattle.std.specs.Prelude.{◌≡◌, ◌≤◌, IfOk, OnOk};
 ghost use Rattle.mesh_model.specs.Complex.{Complex};
 ghost use Rattle.mesh_model.specs.Valid.{IsValid};
-ghost use Rattle.obj_text.specs.Written.{text};
+ghost use Rattle.obj_text.specs.Whole.{BeginsFixed, text};
 ghost use Rattle.byte_sink.specs.Wrote.{with_after, AddsPrefix};
 ghost use Rattle.byte_sink.specs.Causes.{CountsFault};
 
-use crate::writing::face_lines::face_lines;
-use crate::writing::loose_lines::loose_lines;
+use crate::writing::face_lines::push_faces;
+use crate::writing::loose_lines::push_loose;
+use crate::writing::names::library_lines;
+use crate::writing::places::Places;
 use crate::writing::ranks::indices_of;
-use crate::writing::vert_lines::vert_lines;
+use crate::writing::vert_lines::push_verts;
 use byte_sink::{Sink, WriteFault, write_all};
 use mesh_model::{NoMemory, Shape};
 use std::alloc::Global;
 
-/// The text of a complex: a line `v X Y Z` for each vertex, `l A B` for each edge that no face has,
-/// and `f A B C ..` for each face, each kind by rising name. Coordinates are written with `scale`
-/// decimal places. A vertex's index is its place among the vertices, from 1. Each line ends with a line feed.
+/// The text of a complex: a line `mtllib NAME` for each library; `v X Y Z` for each vertex by rising name, with
+/// `scale` decimal places; where some corner doesn't lie at 0 0 in the texture, `vt U V` in millionths for each
+/// distinct place, in order of first use; `l A B` for each edge that no face has, by rising name; and for each face by
+/// rising name `usemtl` and `s` where its material or its smoothing group differs from that of the face before, and
+/// `f` with its corners, each with the number of its place where there are such lines. A vertex's index is its place
+/// among the vertices, from 1. Each line ends with a line feed.
 ///
-/// Takes time and memory in proportion to the names ever given and the corners. Fails only for want of memory.
+/// Takes time and memory in proportion to the names ever given and the corners, as a rule. Fails only for want of
+/// memory.
 pub fn text_of<S: Shape>(alloc: Global, shape: &S, scale: u8) -> Result<Vec<u8>, NoMemory>
     requires valid { IsValid (S.complex shape.now) }
+    requires fixed { BeginsFixed (S.complex shape.now) }
     requires scale { scale ≤ 6 }
     ensures { IfOk result (λ t. t.items ≡ text scale (S.complex shape.now)) }
 {
     let indices = indices_of(alloc, shape)?;
-    let verts = vert_lines(alloc, shape, scale)?;
-    let loose = loose_lines(alloc, shape, &indices)?;
-    let faces = face_lines(alloc, shape, &indices)?;
-    let mut text = verts.into_bytes();
-    text.extend_from_slice(loose.as_bytes())?;
-    text.extend_from_slice(faces.as_bytes())?;
+    let places = Places::of(alloc, shape)?;
+    let mut text = library_lines(alloc, shape)?;
+    push_verts(shape, scale, &mut text)?;
+    places.push_lines(&mut text)?;
+    push_loose(shape, &indices, &mut text)?;
+    push_faces(alloc, shape, &indices, &places, &mut text)?;
     Ok(text)
 }
 
@@ -44,6 +51,7 @@ pub fn write<S: Shape, K: Sink>(
     sink: &mut K,
 ) -> Result<(), WriteFault>
     requires valid { IsValid (S.complex shape.now) }
+    requires fixed { BeginsFixed (S.complex shape.now) }
     requires scale { scale ≤ 6 }
     ensures ok { OnOk result (K.wrote sink.new ≡ with_after (K.wrote sink.old) (text scale (S.complex shape.now))) }
     ensures part { AddsPrefix (K.wrote sink.old) (K.wrote sink.new) (text scale (S.complex shape.now)) }

@@ -1,0 +1,5 @@
+use Rattle.obj_text.proofs.ProgressLemmas.{steps_read}
+use Rattle.obj_text.proofs.laws.steps.Goals as goal
+
+pub returns : goal.returns
+returns c = steps_read

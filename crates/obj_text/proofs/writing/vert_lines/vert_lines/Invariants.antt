@@ -1,9 +1,0 @@
-use Rattle.std.proofs.Common.{◌≡◌, take}
-use Rattle.std.specs.List.{flat_map}
-use Rattle.std.specs.String.{string_bytes}
-use Rattle.obj_text.specs.Written.{vert_entry}
-use Rattle.obj_text.proofs.writing.vert_lines.vert_lines.Given as goal
-
--- the lines of the vertices so far
-abbrev pub invariant-loop-n : goal.invariant-loop-n
-invariant-loop-n g l = string_bytes l.out ≡ flat_map (vert_entry l.scale) (take l.n (g.S.Shape.complex l.shape).verts)
