@@ -105,7 +105,8 @@ part_script c s script final is h = rw is h
 
 read_after_model : (job : Job) (c : Complex) (files : Files) (status : Status) (old mid new : Told)
     → is_past_model status ≡ true → mid.rest ≡ left_after model_most (model_starts job.model) files old.rest
-    → LeavesRead (modelled c job.script job.out) files status mid new → LeavesRead (named job) files status old new
+    → LeavesRead (modelled job.scale c job.script job.out) files status mid new
+    → LeavesRead (named job) files status old new
 read_after_model job c files Done old mid new past left h = h
     ∙ ap (left_after script_most (script_starts job.script) files) left
 read_after_model job c files SomeRefused old mid new past left h = h
@@ -118,33 +119,36 @@ read_after_model job c files InFault old mid new past left h = tt
 read_after_model job c files OutFault old mid new past left h = tt
 read_after_model job c files NoMemory old mid new past left h = tt
 
-read_after_script : (c : Complex) (script out : List ℕ) (files : Files) (status : Status) (old mid new : Told)
+read_after_script : (scale : ℕ) (c : Complex) (script out : List ℕ) (files : Files) (status : Status)
+    (old mid new : Told)
     → is_past_script status ≡ true → mid.rest ≡ left_after script_most (script_starts script) files old.rest
     → new.rest ≡ mid.rest
-    → LeavesRead (modelled c script out) files status old new
-read_after_script c script out files Done old mid new past left same = same ∙ left
-read_after_script c script out files SomeRefused old mid new past left same = same ∙ left
-read_after_script c script out files Usage old mid new past left same = absurd (true≢false (sym past))
-read_after_script c script out files (ModelRefused r) old mid new past left same = absurd (true≢false (sym past))
-read_after_script c script out files (ScriptRefused r) old mid new past left same = absurd (true≢false (sym past))
-read_after_script c script out files InFault old mid new past left same = tt
-read_after_script c script out files OutFault old mid new past left same = tt
-read_after_script c script out files NoMemory old mid new past left same = tt
+    → LeavesRead (modelled scale c script out) files status old new
+read_after_script scale c script out files Done old mid new past left same = same ∙ left
+read_after_script scale c script out files SomeRefused old mid new past left same = same ∙ left
+read_after_script scale c script out files Usage old mid new past left same = absurd (true≢false (sym past))
+read_after_script scale c script out files (ModelRefused r) old mid new past left same = absurd (true≢false (sym past))
+read_after_script scale c script out files (ScriptRefused r) old mid new past left same = absurd (true≢false (sym past))
+read_after_script scale c script out files InFault old mid new past left same = tt
+read_after_script scale c script out files OutFault old mid new past left same = tt
+read_after_script scale c script out files NoMemory old mid new past left same = tt
 
 -- an accepted model was read before
 pub after_model : (job : Job) (c : Complex) (status : Status) (final : State) (old mid new : Told)
-    → ReadsInput {T = Complex} {R = ObjRefusal} (Ok c) (model_of job.model) model_most (model_starts job.model) old mid
+    → ReadsInput {T = Complex} {R = ObjRefusal} (Ok c) (model_of job.scale job.model) model_most
+    (model_starts job.model) old mid
     → is_past_model status ≡ true
-    → RunsAs (modelled c job.script job.out) status final mid new → RunsAs (named job) status final old new
+    → RunsAs (modelled job.scale c job.script job.out) status final mid new → RunsAs (named job) status final old new
 after_model job c status final old mid new reads past h = record {
-  ends = λ files told. ends_model c (model_of job.model files) (script_named job.script files)
+  ends = λ files told. ends_model job.scale c (model_of job.scale job.model files) (script_named job.script files)
       job.out status final old new (reads.judged files told)
       (ends_after _ job.out status final old mid new reads.only (h.ends files (still old mid files reads.only told)));
   in_fault = λ is. leaves_after final old mid new reads.only (h.in_fault is);
-  no_memory = λ is files told. part_model c (model_of job.model files) (script_named job.script files) final
+  no_memory = λ is files told. part_model c (model_of job.scale job.model files) (script_named job.script files) final
       (reads.judged files told) (h.no_memory is files (still old mid files reads.only told));
   cause = caused_after status old mid new reads.cause h.cause;
-  due = λ files told. due_model c (model_of job.model files) (script_named job.script files) (model_starts job.model)
+  due = λ files told. due_model c (model_of job.scale job.model files) (script_named job.script files)
+      (model_starts job.model)
       (script_starts job.script) (out_starts job.out) old mid new (reads.judged files told) reads.asked
       (h.due files (still old mid files reads.only told));
   by_status = ends_by_model (model_starts job.model) (script_starts job.script) (out_starts job.out)
@@ -156,17 +160,18 @@ after_model job c status final old mid new reads past h = record {
 }
 
 -- an accepted script was read before, and its commands were given
-pub after_script : (c : Complex) (s : Script) (script out : List ℕ) (status : Status) (final : State)
+pub after_script : (scale : ℕ) (c : Complex) (s : Script) (script out : List ℕ) (status : Status) (final : State)
     (old mid new : Told)
     → ReadsInput {T = Script} {R = ScriptRefusal} (Ok s) (script_named script) script_most (script_starts script)
     old mid → is_past_script status ≡ true
-    → Ends (commands_outcome c s) out status final mid new
+    → Ends (commands_outcome scale c s) out status final mid new
     → (status ≡ NoMemory → (final ≡ fresh_state) ⊎ IsOnTheWay c s final)
     → Caused status mid new → EndsBy [] [] (out_starts out) status final mid new → new.rest ≡ mid.rest
     → (is_delivered status ≡ true → new.begun ≡ None) → IsSoundState final
-    → RunsAs (modelled c script out) status final old new
-after_script c s script out status final old mid new reads past ends way cause by same finished sound = record {
-  ends = λ files told. ends_script c s (script_named script files) out status final old new (reads.judged files told)
+    → RunsAs (modelled scale c script out) status final old new
+after_script scale c s script out status final old mid new reads past ends way cause by same finished sound = record {
+  ends = λ files told. ends_script scale c s (script_named script files) out status final old new
+      (reads.judged files told)
       (ends_after _ out status final old mid new reads.only ends);
   in_fault = λ is. absurd (true≢false (sym past ∙ ap is_past_script is));
   no_memory = λ is files told. part_script c s (script_named script files) final (reads.judged files told)
@@ -175,7 +180,7 @@ after_script c s script out status final old mid new reads past ends way cause b
   due = λ files told. due_script s (script_named script files) (script_starts script) (out_starts out) old mid new
       (reads.judged files told) reads.asked (asks_out (out_starts out) status final mid new by);
   by_status = ends_by_script (script_starts script) (out_starts out) status final old mid new past reads.asked by;
-  read = λ files told. read_after_script c script out files status old mid new past (reads.left files told) same;
+  read = λ files told. read_after_script scale c script out files status old mid new past (reads.left files told) same;
   finished = finished;
   sound = sound;
 }
@@ -198,7 +203,7 @@ all_is_part line old new all = (
 
 -- a model was refused
 pub refused_model : (job : Job) (r : ObjRefusal) (status : Status) (old mid new : Told)
-    → ReadsInput {T = Complex} {R = ObjRefusal} (Err (stop.Refused r)) (model_of job.model) model_most
+    → ReadsInput {T = Complex} {R = ObjRefusal} (Err (stop.Refused r)) (model_of job.scale job.model) model_most
     (model_starts job.model) old mid
     → PrintsRefusal (ModelRefused r) (model_line r) status mid new → RunsAs (named job) status fresh_state old new
 refused_model job r status old mid new reads prints =
@@ -208,7 +213,8 @@ refused_model job r status old mid new reads prints =
     let line = model_line r in
     elim prints [
       | inl a ↦ rw a.0 (record {
-        ends = λ files told. ends_model_refused r (model_of job.model files) (script_named job.script files) job.out
+        ends = λ files told. ends_model_refused job.scale r (model_of job.scale job.model files)
+            (script_named job.script files) job.out
             (ModelRefused r) fresh_state old new (reads.judged files told)
             (ends_after _ job.out (ModelRefused r) fresh_state old mid new reads.only
             (ends_printed (ModelRefused r) line job.out mid new a.1 (all_is_part line mid new a.1)));
@@ -219,7 +225,7 @@ refused_model job r status old mid new reads prints =
           output =
               ap (λ (t : Told). t.out_faults) a.1;
         });
-        due = λ files told. due_early_model (model_of job.model files) (script_named job.script files)
+        due = λ files told. due_early_model (model_of job.scale job.model files) (script_named job.script files)
             models scripts outs old new (asks_all models old new (ap (λ (t : Told). t.started) a.1 ∙ reads.asked));
         by_status = prints_refused line models old mid new reads.only reads.asked
             (prints_line line line mid new refl a.1);
@@ -229,7 +235,8 @@ refused_model job r status old mid new reads prints =
       })
       | inr f ↦ elim f [
         | inl b ↦ rw b.0 (record {
-          ends = λ files told. ends_model_refused r (model_of job.model files) (script_named job.script files)
+          ends = λ files told. ends_model_refused job.scale r (model_of job.scale job.model files)
+              (script_named job.script files)
               job.out OutFault fresh_state old new (reads.judged files told)
               (ends_after _ job.out OutFault fresh_state old mid new reads.only
               (ends_unprinted (ModelRefused r) OutFault line line job.out mid new refl refl b.1));
@@ -239,7 +246,7 @@ refused_model job r status old mid new reads prints =
             rose_after old.out_faults mid.out_faults new.out_faults reads.cause.output b.2,
             ap (λ (t : Told). t.in_faults) b.1.1 ∙ reads.cause.input,
           );
-          due = λ files told. due_early_model (model_of job.model files) (script_named job.script files)
+          due = λ files told. due_early_model (model_of job.scale job.model files) (script_named job.script files)
               models scripts outs old new (asks_all models old new (ap (λ (t : Told). t.started) b.1.1 ∙ reads.asked));
           by_status = asks_refused models (scripts ++ outs) old mid new reads.asked
               (ap (λ (t : Told). t.started) b.1.1);
@@ -248,14 +255,15 @@ refused_model job r status old mid new reads prints =
           sound = sound_fresh;
         })
         | inr d ↦ rw d.0 (record {
-          ends = λ files told. ends_model_refused r (model_of job.model files) (script_named job.script files)
+          ends = λ files told. ends_model_refused job.scale r (model_of job.scale job.model files)
+              (script_named job.script files)
               job.out NoMemory fresh_state old new (reads.judged files told)
               (ends_after _ job.out NoMemory fresh_state old mid new reads.only
               (ends_unprinted (ModelRefused r) NoMemory line line job.out mid new refl refl d.1));
           in_fault = λ is. cc;
           no_memory = λ is files told. inl refl;
           cause = kept old mid new reads.cause (record { input = ap (λ (t : Told). t.in_faults) d.1.1; output = d.2 });
-          due = λ files told. due_early_model (model_of job.model files) (script_named job.script files)
+          due = λ files told. due_early_model (model_of job.scale job.model files) (script_named job.script files)
               models scripts outs old new (asks_all models old new (ap (λ (t : Told). t.started) d.1.1 ∙ reads.asked));
           by_status = asks_refused models (scripts ++ outs) old mid new reads.asked
               (ap (λ (t : Told). t.started) d.1.1);
@@ -267,18 +275,19 @@ refused_model job r status old mid new reads prints =
     ]
 
 -- a script was refused
-pub refused_script : (c : Complex) (r : ScriptRefusal) (script out : List ℕ) (status : Status) (old mid new : Told)
+pub refused_script : (scale : ℕ) (c : Complex) (r : ScriptRefusal) (script out : List ℕ) (status : Status)
+    (old mid new : Told)
     → ReadsInput {T = Script} {R = ScriptRefusal} (Err (stop.Refused r)) (script_named script) script_most
     (script_starts script) old mid
     → PrintsRefusal (ScriptRefused r) (script_line r) status mid new
-    → RunsAs (modelled c script out) status fresh_state old new
-refused_script c r script out status old mid new reads prints =
+    → RunsAs (modelled scale c script out) status fresh_state old new
+refused_script scale c r script out status old mid new reads prints =
     let scripts = script_starts script in
     let outs = out_starts out in
     let line = script_line r in
     elim prints [
       | inl a ↦ rw a.0 (record {
-        ends = λ files told. ends_script_refused c r (script_named script files) out (ScriptRefused r)
+        ends = λ files told. ends_script_refused scale c r (script_named script files) out (ScriptRefused r)
             fresh_state old new (reads.judged files told)
             (ends_after _ out (ScriptRefused r) fresh_state old mid new reads.only
             (ends_printed (ScriptRefused r) line out mid new a.1 (all_is_part line mid new a.1)));
@@ -299,7 +308,8 @@ refused_script c r script out status old mid new reads prints =
       })
       | inr f ↦ elim f [
         | inl b ↦ rw b.0 (record {
-          ends = λ files told. ends_script_refused c r (script_named script files) out OutFault fresh_state old new
+          ends = λ files told. ends_script_refused scale c r (script_named script files) out OutFault fresh_state old
+              new
               (reads.judged files told)
               (ends_after _ out OutFault fresh_state old mid new reads.only
               (ends_unprinted (ScriptRefused r) OutFault line line out mid new refl refl b.1));
@@ -317,7 +327,8 @@ refused_script c r script out status old mid new reads prints =
           sound = sound_fresh;
         })
         | inr d ↦ rw d.0 (record {
-          ends = λ files told. ends_script_refused c r (script_named script files) out NoMemory fresh_state old new
+          ends = λ files told. ends_script_refused scale c r (script_named script files) out NoMemory fresh_state old
+              new
               (reads.judged files told)
               (ends_after _ out NoMemory fresh_state old mid new reads.only
               (ends_unprinted (ScriptRefused r) NoMemory line line out mid new refl refl d.1));
@@ -347,7 +358,7 @@ ends_early o out status old new fault other only = record {
 
 -- a model could not be read
 pub failed_model : (job : Job) (old new : Told)
-    → ReadsInput {T = Complex} {R = ObjRefusal} (Err stop.Failed) (model_of job.model) model_most
+    → ReadsInput {T = Complex} {R = ObjRefusal} (Err stop.Failed) (model_of job.scale job.model) model_most
     (model_starts job.model) old new → RunsAs (named job) InFault fresh_state old new
 failed_model job old new reads = record {
   ends = λ files told. ends_early _ job.out InFault old new refl (λ is. cc) reads.only;
@@ -359,7 +370,7 @@ failed_model job old new reads = record {
   };
   no_memory = λ is. cc;
   cause = reads.cause;
-  due = λ files told. due_early_model (model_of job.model files) (script_named job.script files)
+  due = λ files told. due_early_model (model_of job.scale job.model files) (script_named job.script files)
       (model_starts job.model) (script_starts job.script) (out_starts job.out) old new reads.asked;
   by_status = asks_first (model_starts job.model) (script_starts job.script) old new reads.asked;
   read = λ files told. tt;
@@ -369,14 +380,14 @@ failed_model job old new reads = record {
 
 -- there was no memory to read a model
 pub unread_model : (job : Job) (old new : Told)
-    → ReadsInput {T = Complex} {R = ObjRefusal} (Err stop.NoMemory) (model_of job.model) model_most
+    → ReadsInput {T = Complex} {R = ObjRefusal} (Err stop.NoMemory) (model_of job.scale job.model) model_most
     (model_starts job.model) old new → RunsAs (named job) NoMemory fresh_state old new
 unread_model job old new reads = record {
   ends = λ files told. ends_early _ job.out NoMemory old new refl (λ is. cc) reads.only;
   in_fault = λ is. cc;
   no_memory = λ is files told. inl refl;
   cause = reads.cause;
-  due = λ files told. due_early_model (model_of job.model files) (script_named job.script files)
+  due = λ files told. due_early_model (model_of job.scale job.model files) (script_named job.script files)
       (model_starts job.model) (script_starts job.script) (out_starts job.out) old new reads.asked;
   by_status = asks_first (model_starts job.model) (script_starts job.script ++ out_starts job.out) old new reads.asked;
   read = λ files told. tt;
@@ -385,10 +396,10 @@ unread_model job old new reads = record {
 }
 
 -- a script could not be read
-pub failed_script : (c : Complex) (script out : List ℕ) (old new : Told)
+pub failed_script : (scale : ℕ) (c : Complex) (script out : List ℕ) (old new : Told)
     → ReadsInput {T = Script} {R = ScriptRefusal} (Err stop.Failed) (script_named script) script_most
-    (script_starts script) old new → RunsAs (modelled c script out) InFault fresh_state old new
-failed_script c script out old new reads = record {
+    (script_starts script) old new → RunsAs (modelled scale c script out) InFault fresh_state old new
+failed_script scale c script out old new reads = record {
   ends = λ files told. ends_early _ out InFault old new refl (λ is. cc) reads.only;
   in_fault = λ is. record {
     made = ap (λ (t : Told). t.made) reads.only;
@@ -407,10 +418,10 @@ failed_script c script out old new reads = record {
 }
 
 -- there was no memory to read a script
-pub unread_script : (c : Complex) (script out : List ℕ) (old new : Told)
+pub unread_script : (scale : ℕ) (c : Complex) (script out : List ℕ) (old new : Told)
     → ReadsInput {T = Script} {R = ScriptRefusal} (Err stop.NoMemory) (script_named script) script_most
-    (script_starts script) old new → RunsAs (modelled c script out) NoMemory fresh_state old new
-unread_script c script out old new reads = record {
+    (script_starts script) old new → RunsAs (modelled scale c script out) NoMemory fresh_state old new
+unread_script scale c script out old new reads = record {
   ends = λ files told. ends_early _ out NoMemory old new refl (λ is. cc) reads.only;
   in_fault = λ is. cc;
   no_memory = λ is files told. inl refl;

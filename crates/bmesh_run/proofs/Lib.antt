@@ -6,3 +6,4 @@ pub mod Running
 pub mod Completing
 pub mod Asking
 pub mod Levels
+pub mod Fixed

@@ -4,7 +4,7 @@ use Rattle.std.proofs.Common.{arith, append_assoc, Some, None, Result, Ok, Err, 
 use Rattle.std.proofs.Math.Seq.{take-append-add}
 use Rattle.std.proofs.lemmas.List.{take-append-le, take_min}
 use Rattle.std.specs.Option.{option_map}
-use Rattle.mesh_model.specs.declared.slots.Command.{Command}
+use Rattle.op_slots.specs.declared.command.Command.{Command}
 use Rattle.mesh_session.specs.State.{State, fresh_state, first_state}
 use Rattle.mesh_session.specs.Steps.{steps}
 use Rattle.mesh_session.specs.declared.reply.Reply.{Reply}
@@ -109,31 +109,35 @@ ends_unprinted refused status line bytes out old new fault is part =
     (λ answer. absurd (true≢false (sym answer ∙ fault))) (rw is at part)
 
 -- an accepted script
-pub ends_script : (c : Complex) (s : Script) (script : Result Script ScriptRefusal) (out : List ℕ) (status : Status)
-    (final : State) (old new : Told) → script ≡ Ok s → Ends (commands_outcome c s) out status final old new
-    → Ends (with_script c script) out status final old new
-ends_script c s script out status final old new is h = rw is h
+pub ends_script : (scale : ℕ) (c : Complex) (s : Script) (script : Result Script ScriptRefusal) (out : List ℕ)
+    (status : Status)
+    (final : State) (old new : Told) → script ≡ Ok s → Ends (commands_outcome scale c s) out status final old new
+    → Ends (with_script scale c script) out status final old new
+ends_script scale c s script out status final old new is h = rw is h
 
 -- a script that is refused
-pub ends_script_refused : (c : Complex) (r : ScriptRefusal) (script : Result Script ScriptRefusal) (out : List ℕ)
+pub ends_script_refused : (scale : ℕ) (c : Complex) (r : ScriptRefusal) (script : Result Script ScriptRefusal)
+    (out : List ℕ)
     (status : Status) (final : State) (old new : Told) → script ≡ Err r
     → Ends (refusal_outcome (ScriptRefused r) (script_line r)) out status final old new
-    → Ends (with_script c script) out status final old new
-ends_script_refused c r script out status final old new is h = rw is h
+    → Ends (with_script scale c script) out status final old new
+ends_script_refused scale c r script out status final old new is h = rw is h
 
 -- an accepted model
-pub ends_model : (c : Complex) (model : Result Complex ObjRefusal) (script : Result Script ScriptRefusal) (out : List ℕ)
+pub ends_model : (scale : ℕ) (c : Complex) (model : Result Complex ObjRefusal) (script : Result Script ScriptRefusal)
+    (out : List ℕ)
     (status : Status) (final : State) (old new : Told) → model ≡ Ok c
-    → Ends (with_script c script) out status final old new
-    → Ends (with_model model script) out status final old new
-ends_model c model script out status final old new is h = rw is h
+    → Ends (with_script scale c script) out status final old new
+    → Ends (with_model scale model script) out status final old new
+ends_model scale c model script out status final old new is h = rw is h
 
 -- a model that is refused
-pub ends_model_refused : (r : ObjRefusal) (model : Result Complex ObjRefusal) (script : Result Script ScriptRefusal)
+pub ends_model_refused : (scale : ℕ) (r : ObjRefusal) (model : Result Complex ObjRefusal)
+    (script : Result Script ScriptRefusal)
     (out : List ℕ) (status : Status) (final : State) (old new : Told) → model ≡ Err r
     → Ends (refusal_outcome (ModelRefused r) (model_line r)) out status final old new
-    → Ends (with_model model script) out status final old new
-ends_model_refused r model script out status final old new is h = rw is h
+    → Ends (with_model scale model script) out status final old new
+ends_model_refused scale r model script out status final old new is h = rw is h
 
 -- words that are not accepted
 pub ends_words : (words : List (List ℕ)) (files : Files) (status : Status) (final : State) (old new : Told)
@@ -144,15 +148,18 @@ ends_words words files status final old new is h = rw is h
 -- words that are accepted
 pub ends_job : (words : List (List ℕ)) (job : Job) (files : Files) (status : Status) (final : State) (old new : Told)
     → job_of words ≡ Some job
-    → Ends (with_model (model_of job.model files) (script_named job.script files)) job.out status final old new
+    → Ends (with_model job.scale (model_of job.scale job.model files) (script_named job.script files)) job.out status
+    final old new
     → Ends (outcome words files) (out_of (job_of words)) status final old new
 ends_job words job files status final old new is h = rw is h
 
 -- the commands of a script were given, and their replies concluded
-pub ends_delivered : (c : Complex) (s : Script) (start : State) (commands : List Command) (replies : List Reply)
+pub ends_delivered : (scale : ℕ) (c : Complex) (s : Script) (start : State) (commands : List Command)
+    (replies : List Reply)
     (out : List ℕ) (status : Status) (final : State) (old new : Told) → start ≡ first_state c → commands ≡ s.commands
-    → (replies, final) ≡ steps start commands → Ends (replies_outcome commands replies final) out status final old new
-    → Ends (commands_outcome c s) out status final old new
-ends_delivered c s start commands replies out status final old new is_loaded are told h =
+    → (replies, final) ≡ steps start commands
+    → Ends (replies_outcome scale commands replies final) out status final old new
+    → Ends (commands_outcome scale c s) out status final old new
+ends_delivered scale c s start commands replies out status final old new is_loaded are told h =
     let all : steps (first_state c) s.commands ≡ (replies, final) = sym (rw (is_loaded, are) at told) in
     rw all (rw are at h)

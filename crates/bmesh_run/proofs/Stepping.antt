@@ -2,7 +2,7 @@
 use Rattle.std.proofs.Common.{◌≡◌, ℕ, zero, suc, ◌+◌, ◌<◌, ◌++◌, List, [], ◌∷◌, length, get_or, take, drop, sym, ap}
 use Rattle.std.proofs.Common.{◌∙◌, arith, append_assoc}
 use Rattle.std.proofs.lemmas.List.{drop_more}
-use Rattle.mesh_model.specs.declared.slots.Command.{Command}
+use Rattle.op_slots.specs.declared.command.Command.{Command}
 use Rattle.mesh_session.specs.State.{State}
 use Rattle.mesh_session.specs.Steps.{step, steps}
 use Rattle.mesh_session.specs.declared.reply.Reply.{Reply}

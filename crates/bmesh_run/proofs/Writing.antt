@@ -6,6 +6,7 @@ use Rattle.std.specs.Option.{option_map, option_and_then}
 use Rattle.byte_sink.specs.Wrote.{with_after}
 use Rattle.byte_sink.proofs.WroteLemmas.{with_after_more}
 use Rattle.worlds.specs.Files.{Files, entry_of, put}
+use Rattle.worlds.specs.Calls.{Finishes}
 use Rattle.worlds.specs.Told.{Told, with_start, put_begun, wrote_of, rest_of}
 use Rattle.bmesh_run.specs.Whole.{GainsStart, MakesPart}
 use Rattle.worlds.specs.declared.world_fault.WorldFault.{WorldFault}
@@ -98,3 +99,10 @@ printed_more t0 t t' bytes i n h was step =
     }) was
     ∙ ap (λ (p : Option (List ℕ)). record t0 { printed = p })
     (with_after_more t0.printed (with_after t0.printed (take i bytes)) _ i n bytes h refl refl)
+
+-- the end of writing asks for no file
+pub finished_started : (r : Result (Unit {0}) WorldFault) (old new : Told) → Finishes old new r
+    → new.started ≡ old.started
+finished_started (Ok _) old new h = ap (λ (t : Told). t.started) h
+finished_started (Err Failed) old new h = ap (λ (t : Told). t.started) h.1
+finished_started (Err NoMemory) old new h = ap (λ (t : Told). t.started) h

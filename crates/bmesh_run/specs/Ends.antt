@@ -173,7 +173,8 @@ IsPartOf model script final =
 -- the same for the words of a command line
 abbrev pub IsPartOfRun : Option Job → Files → State → Type 0
 IsPartOfRun None files final = final ≡ fresh_state
-IsPartOfRun (Some job) files final = IsPartOf (model_of job.model files) (script_named job.script files) final
+IsPartOfRun (Some job) files final =
+    IsPartOf (model_of job.scale job.model files) (script_named job.script files) final
 
 -- this status, unless its one line can't be printed
 abbrev pub IsRefusal : Status → Status → Type 0

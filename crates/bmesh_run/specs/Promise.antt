@@ -33,10 +33,12 @@ PrintsRefusal refusal line status old new =
     ⊎ ((status ≡ OutFault) × PrintsPart old new line × Rose old.out_faults new.out_faults)
     ⊎ ((status ≡ NoMemory) × PrintsPart old new line × (new.out_faults ≡ old.out_faults))
 
--- what is known of the inputs: the verdicts on the model and on the script, by the files that the world tells; the
+-- what is known of the inputs: the scale of the grid; the verdicts on the model and on the script, by the files that
+-- the world tells; the
 -- files that are
 -- still to be read for them; and the name of the file to write
 pub record Task : Type 0 where
+  pub scale : ℕ
   pub model : Files → Result Complex ObjRefusal
   pub script : Files → Result Script ScriptRefusal
   pub models : List Start
@@ -46,7 +48,8 @@ pub record Task : Type 0 where
 -- accepted words: nothing is read yet
 abbrev pub named : Job → Task
 named job = record {
-  model = model_of job.model;
+  scale = job.scale;
+  model = model_of job.scale job.model;
   script = script_named job.script;
   models = model_starts job.model;
   scripts = script_starts job.script;
@@ -54,8 +57,9 @@ named job = record {
 }
 
 -- an accepted model: the script is to be read
-abbrev pub modelled : Complex → List ℕ → List ℕ → Task
-modelled c script out = record {
+abbrev pub modelled : ℕ → Complex → List ℕ → List ℕ → Task
+modelled scale c script out = record {
+  scale = scale;
   model = λ _. Ok c;
   script = script_named script;
   models = [];
@@ -65,8 +69,15 @@ modelled c script out = record {
 }
 
 -- an accepted model and script: nothing more is to be read
-abbrev pub scripted : Complex → Script → List ℕ → Task
-scripted c s out = record { model = λ _. Ok c; script = λ _. Ok s; models = []; scripts = []; out = out }
+abbrev pub scripted : ℕ → Complex → Script → List ℕ → Task
+scripted scale c s out = record {
+  scale = scale;
+  model = λ _. Ok c;
+  script = λ _. Ok s;
+  models = [];
+  scripts = [];
+  out = out;
+}
 
 -- what is left to read after the model
 abbrev pub left_of_model : Task → Files → Told → Option (List ℕ)
@@ -90,7 +101,7 @@ LeavesRead t files NoMemory old new = Unit {0}
 -- what each level of a run promises
 pub record RunsAs (t : Task) (status : Status) (final : State) (old new : Told) : Type 0 where
   pub ends : (files : Files) → old.files ≡ Some files
-      → Ends (with_model (t.model files) (t.script files)) t.out status final old new
+      → Ends (with_model t.scale (t.model files) (t.script files)) t.out status final old new
   pub in_fault : status ≡ InFault → LeavesAll final old new
   pub no_memory : status ≡ NoMemory → (files : Files) → old.files ≡ Some files
       → IsPartOf (t.model files) (t.script files) final

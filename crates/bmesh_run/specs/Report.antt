@@ -9,8 +9,8 @@ use Rattle.mesh_model.specs.Words.{elem_text, kind_text, why_text}
 use Rattle.mesh_model.specs.declared.refusal.Refusal.{Refusal}
 use Rattle.mesh_model.specs.declared.refusal.Place.{Place}
 use Rattle.mesh_model.specs.declared.refusal.Place.TheVariants.{Nowhere, Elem, Kind}
-use Rattle.mesh_model.specs.declared.slots.Slots.{Slots}
-use Rattle.mesh_model.specs.declared.slots.Command.{Command}
+use Rattle.op_slots.specs.declared.slots.Slots.{Slots}
+use Rattle.op_slots.specs.declared.command.Command.{Command}
 use Rattle.mesh_session.specs.State.{State}
 use Rattle.mesh_session.specs.declared.reply.Reply.{Reply}
 use Rattle.mesh_session.specs.declared.reply.Reply.TheVariants.{Done, Refused}

@@ -1,8 +1,9 @@
 -- Command lines and whole runs over small files, worked out.
-use Rattle.std.specs.Prelude.{◌≡◌, ℕ, true, false, List, [], ◌∷◌, ◌++◌, codes}
+use Rattle.std.specs.Prelude.{◌≡◌, ℕ, pos, neg_ℤ, true, false, List, [], ◌∷◌, ◌++◌, codes}
 use Rattle.std.specs.declared.option.Option.TheVariants.{None, Some}
 use Rattle.mesh_model.specs.Complex.{new_model}
 use Rattle.mesh_model.specs.Deleting.{without_verts}
+use Rattle.mesh_model.specs.Making.{with_vert, vert_at_point}
 use Rattle.mesh_model.specs.Models.{square, vert}
 use Rattle.mesh_session.specs.State.{first_state}
 use Rattle.mesh_session.specs.Rows.{state_after}
@@ -23,7 +24,7 @@ plain_words = words (codes "model") (codes "script") (codes "out")
 
 -- the names that these words give
 abbrev pub plain_job : Job
-plain_job = record { model = codes "model"; script = codes "script"; out = codes "out" }
+plain_job = record { model = codes "model"; script = codes "script"; out = codes "out"; scale = 0 }
 
 -- a model and a script
 abbrev pub files : List ℕ → List ℕ → Files
@@ -51,7 +52,8 @@ OtherWordsRefused = (job_of [] ≡ None)
     × (job_of (codes "model" ∷ codes "script" ∷ codes "out" ∷ codes "--scale" ∷ []) ≡ None)
     × (job_of (plain_words ++ codes "0" ∷ []) ≡ None)
     × (job_of (codes "model" ∷ codes "script" ∷ codes "out" ∷ codes "--scales" ∷ codes "0" ∷ []) ≡ None)
-    × (job_of (codes "model" ∷ codes "script" ∷ codes "out" ∷ codes "--scale" ∷ codes "1" ∷ []) ≡ None)
+    × (job_of (codes "model" ∷ codes "script" ∷ codes "out" ∷ codes "--scale" ∷ codes "7" ∷ []) ≡ None)
+    × (job_of (codes "model" ∷ codes "script" ∷ codes "out" ∷ codes "--scale" ∷ codes "00" ∷ []) ≡ None)
     × (job_of (codes "--scale" ∷ codes "0" ∷ codes "model" ∷ codes "script" ∷ codes "out" ∷ []) ≡ None)
 
 -- a corner is cut off the square
@@ -82,10 +84,24 @@ MissingVertex = outcome plain_words (files square_text (codes "delete geom=v9 co
   session = first_state square;
 }
 
--- a line of another form refuses the model, whatever the script, and then the script
+-- at a scale of 2 the model is read in hundredths, and written so
+abbrev pub ScaleKept : Type 0
+ScaleKept = outcome (codes "model" ∷ codes "script" ∷ codes "out" ∷ codes "--scale" ∷ codes "2" ∷ [])
+    (files (codes "v 1.5 -2 .25\n") []) ≡ record {
+      status = Done;
+      made = Some (codes "v 1.50 -2.00 0.25\n");
+      printed = codes "end verts=1 edges=0 faces=0 corners=0 loose=0 refused=0 undo=0 redo=0\n";
+      session = first_state (with_vert new_model (vert_at_point new_model (record {
+        x = pos 150;
+        y = neg_ℤ (pos 200);
+        z = pos 25;
+      })));
+    }
+
+-- a line at fault refuses the model, whatever the script, and then the script
 abbrev pub InputsRefused : Type 0
 InputsRefused = (outcome plain_words (files (codes "v 0 0 0\nl 1 2\n") (codes "undo"))
-    ≡ refusal_outcome (ModelRefused (record { line = 2; why = obj_why.NotYet })) (codes "model line 2: NotYet\n"))
+    ≡ refusal_outcome (ModelRefused (record { line = 2; why = obj_why.BadIndex })) (codes "model line 2: BadIndex\n"))
     × (outcome plain_words (files square_text (codes "undo"))
     ≡ refusal_outcome (ScriptRefused (record { line = 1; why = script_why.NotYet })) (codes "script line 1: NotYet\n"))
 

@@ -5,12 +5,12 @@ use Rattle.std.specs.List.{list_any}
 use Rattle.std.specs.declared.option.Option.{Option}
 use Rattle.std.specs.declared.option.Option.TheVariants.{None, Some}
 use Rattle.mesh_model.specs.Complex.{Complex}
-use Rattle.mesh_model.specs.declared.slots.Command.{Command}
+use Rattle.op_slots.specs.declared.command.Command.{Command}
 use Rattle.mesh_session.specs.State.{State, fresh_state, first_state}
 use Rattle.mesh_session.specs.Steps.{steps}
 use Rattle.mesh_session.specs.declared.reply.Reply.{Reply}
 use Rattle.obj_text.specs.Obj.{read_text}
-use Rattle.obj_text.specs.Written.{text}
+use Rattle.obj_text.specs.Whole.{text}
 use Rattle.obj_text.specs.Words as obj
 use Rattle.obj_text.specs.declared.obj_fault.ObjRefusal.{ObjRefusal}
 use Rattle.obj_text.specs.declared.obj_fault.ObjWhy.TheVariants as obj_why
@@ -30,9 +30,9 @@ use Rattle.bmesh_run.specs.declared.status.Status.TheVariants.{Done, SomeRefused
 abbrev pub grid_refusal : ObjRefusal
 grid_refusal = record { line = 0; why = obj_why.NotYet }
 
--- the complex of a model, or its first fault
-abbrev pub model_of : List ℕ → Files → Result Complex ObjRefusal
-model_of name files = if is_grid name then Err grid_refusal else read_text 0 (bytes_of name files)
+-- the complex of a model at a scale, or its first fault
+abbrev pub model_of : ℕ → List ℕ → Files → Result Complex ObjRefusal
+model_of scale name files = if is_grid name then Err grid_refusal else read_text scale (bytes_of name files)
 
 -- the script of a name, or its first fault
 abbrev pub script_named : List ℕ → Files → Result Script ScriptRefusal
@@ -41,11 +41,11 @@ script_named name files =
 
 -- how many bytes of a model are read at most: one past the limit
 abbrev pub model_most : ℕ
-model_most = 65537
+model_most = 268435457
 
 -- how many bytes of a script are read at most, likewise
 abbrev pub script_most : ℕ
-script_most = 65537
+script_most = 1048577
 
 -- the line for words that are not accepted
 abbrev pub usage_line : List ℕ
@@ -71,32 +71,34 @@ abbrev pub refusal_outcome : Status → List ℕ → Outcome
 refusal_outcome status line = record { status = status; made = None; printed = line; session = fresh_state }
 
 -- some replies and the last state: the text of its complex is written, and the report printed
-abbrev pub replies_outcome : List Command → List Reply → State → Outcome
-replies_outcome commands replies s = record {
+abbrev pub replies_outcome : ℕ → List Command → List Reply → State → Outcome
+replies_outcome scale commands replies s = record {
   status = if list_any is_refused replies then SomeRefused else Done;
-  made = Some (text 0 s.now);
+  made = Some (text scale s.now);
   printed = report commands replies s;
   session = s;
 }
 
 -- the commands of a script in order on the model's complex
-abbrev pub commands_outcome : Complex → Script → Outcome
-commands_outcome c s = let all = steps (first_state c) s.commands in replies_outcome s.commands all.0 all.1
+abbrev pub commands_outcome : ℕ → Complex → Script → Outcome
+commands_outcome scale c s =
+    let all = steps (first_state c) s.commands in replies_outcome scale s.commands all.0 all.1
 
 -- with the model's complex: the script is refused, or delivered
-abbrev pub with_script : Complex → Result Script ScriptRefusal → Outcome
-with_script c (Err r) = refusal_outcome (ScriptRefused r) (script_line r)
-with_script c (Ok s) = commands_outcome c s
+abbrev pub with_script : ℕ → Complex → Result Script ScriptRefusal → Outcome
+with_script scale c (Err r) = refusal_outcome (ScriptRefused r) (script_line r)
+with_script scale c (Ok s) = commands_outcome scale c s
 
 -- with the words: the model is refused, or goes on to the script
-abbrev pub with_model : Result Complex ObjRefusal → Result Script ScriptRefusal → Outcome
-with_model (Err r) script = refusal_outcome (ModelRefused r) (model_line r)
-with_model (Ok c) script = with_script c script
+abbrev pub with_model : ℕ → Result Complex ObjRefusal → Result Script ScriptRefusal → Outcome
+with_model scale (Err r) script = refusal_outcome (ModelRefused r) (model_line r)
+with_model scale (Ok c) script = with_script scale c script
 
 -- the words are refused, or name the model and the script
 abbrev pub with_job : Files → Option Job → Outcome
 with_job files None = refusal_outcome Usage usage_line
-with_job files (Some job) = with_model (model_of job.model files) (script_named job.script files)
+with_job files (Some job) =
+    with_model job.scale (model_of job.scale job.model files) (script_named job.script files)
 
 -- the files that are due once a model is accepted: SCRIPT, and OUT where the script is accepted
 abbrev pub due_by_script : Result Script ScriptRefusal → List Start → List Start → List Start
@@ -113,7 +115,7 @@ due_by_model (Ok c) verdict model script out = model ++ due_by_script verdict sc
 abbrev pub due : Option Job → Files → List Start
 due None files = []
 due (Some job) files =
-    due_by_model (model_of job.model files) (script_named job.script files) (model_starts job.model)
+    due_by_model (model_of job.scale job.model files) (script_named job.script files) (model_starts job.model)
     (script_starts job.script) (out_starts job.out)
 
 -- what a run gives

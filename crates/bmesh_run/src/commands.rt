@@ -4,9 +4,9 @@ ghost use Rattle.std.specs.Prelude.{◌≡◌, ℕ, take, length, IfOk};
 ghost use Rattle.mesh_session.specs.State.{IsSoundState};
 ghost use Rattle.mesh_session.specs.Steps.{steps};
 
-use mesh_model::slots::Command;
 use mesh_model::{NoMemory, Sequence};
 use mesh_session::{Reply, Session};
+use op_slots::Command;
 use std::alloc::Global;
 
 /// The replies to some commands in order. After `NoMemory` the first so many commands were given.

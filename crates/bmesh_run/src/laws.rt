@@ -2,7 +2,7 @@
 //! call does anything.
 
 ghost use Rattle.bmesh_run.specs.Rows.{NamesRead, OtherWordsRefused, NamesOfFiles, SquareCut, NothingGiven};
-ghost use Rattle.bmesh_run.specs.Rows.{MissingVertex, InputsRefused, WordsRefused, FilesDue};
+ghost use Rattle.bmesh_run.specs.Rows.{ScaleKept, MissingVertex, InputsRefused, WordsRefused, FilesDue};
 
 /// The words of command lines.
 pub fn words()
@@ -16,6 +16,7 @@ pub fn delivered()
     ensures cut { SquareCut }
     ensures nothing { NothingGiven }
     ensures missing { MissingVertex }
+    ensures scale { ScaleKept }
 {}
 
 /// Whole runs that are refused, and the files that are due.

@@ -1,11 +1,12 @@
 //! The whole run.
 
-ghost use Rattle.std.specs.Prelude.{◌≡◌, ◌⊎◌, [], true, None, Some, length, map, if◌then◌else◌};
+ghost use Rattle.std.specs.Prelude.{◌≡◌, ◌≤◌, ◌⊎◌, [], true, None, Some, length, map, if◌then◌else◌};
 ghost use Rattle.std.specs.String.{string_bytes};
 ghost use Rattle.std.specs.List.{list_any};
 ghost use Rattle.mesh_model.specs.Valid.{IsSound};
 ghost use Rattle.mesh_session.specs.State.{fresh_state, IsSoundState};
 ghost use Rattle.byte_sink.specs.Wrote.{with_after};
+ghost use Rattle.obj_text.specs.Whole.{BeginsFixed};
 ghost use Rattle.bmesh_run.specs.Job.{out_starts};
 ghost use Rattle.bmesh_run.specs.Run.{model_line, script_line, usage_line, replies_outcome, commands_outcome};
 ghost use Rattle.bmesh_run.specs.Report.{report, is_refused};
@@ -22,9 +23,9 @@ use crate::stop::Stop;
 use crate::write::report::{report, some_refused};
 use crate::write::whole_file::{print_all, write_file};
 use mesh_model::Draft;
-use mesh_model::slots::Command;
 use mesh_session::{Reply, Session};
 use obj_text::ObjRefusal;
+use op_slots::Command;
 use script_text::{Script, ScriptRefusal};
 use std::alloc::Global;
 use worlds::{World, WorldFault};
@@ -55,16 +56,26 @@ pub fn run<W: World>(
 
 // With accepted words: reads the model.
 fn run_job<W: World>(alloc: Global, job: Job<'_>, session: &mut Session, world: &mut W) -> Status
-    requires { session.old.state ≡ fresh_state }
+    requires fresh { session.old.state ≡ fresh_state }
+    requires scale { job.scale ≤ 6 }
     ensures runs { RunsAs
-        (named (record { model = job.entry.model.now; script = job.entry.script.now; out = job.entry.out.now }))
-        result session.new.state
-        (W.told world.old) (W.told world.new) }
-    ensures usage { RefusesWords
-        (Some (record { model = job.entry.model.now; script = job.entry.script.now; out = job.entry.out.now })) result }
+        (named (record {
+          model = job.entry.model.now;
+          script = job.entry.script.now;
+          out = job.entry.out.now;
+          scale = job.entry.scale;
+        })) result session.new.state (W.told world.old) (W.told world.new) }
+    ensures usage { RefusesWords (Some (record {
+      model = job.entry.model.now;
+      script = job.entry.script.now;
+      out = job.entry.out.now;
+      scale = job.entry.scale;
+    })) result }
 {
-    match read_model(alloc, world, job.model) {
-        Ok(draft) => run_model(alloc, &draft, job.script, job.out, session, world),
+    match read_model(alloc, world, job.model, job.scale) {
+        Ok(draft) => run_model(
+            alloc, &draft, job.script, job.out, job.scale, session, world,
+        ),
         Err(Stop::Refused(refusal)) => refuse_model(alloc, refusal, world),
         Err(Stop::Failed) => Status::InFault,
         Err(Stop::NoMemory) => Status::NoMemory,
@@ -77,17 +88,20 @@ fn run_model<W: World>(
     draft: &Draft,
     script: &str,
     out: &str,
+    scale: u8,
     session: &mut Session,
     world: &mut W,
 ) -> Status
     requires fresh { session.old.state ≡ fresh_state }
     requires sound { IsSound draft.now }
-    ensures runs { RunsAs (modelled draft.now script.now out.now) result session.new.state (W.told world.old)
+    requires fixed { BeginsFixed draft.now }
+    requires scale { scale ≤ 6 }
+    ensures runs { RunsAs (modelled scale draft.now script.now out.now) result session.new.state (W.told world.old)
         (W.told world.new) }
     ensures accepted { is_past_model result ≡ true }
 {
     match read_script(alloc, world, script) {
-        Ok(script) => deliver(alloc, draft, &script, out, session, world),
+        Ok(script) => deliver(alloc, draft, &script, out, scale, session, world),
         Err(Stop::Refused(refusal)) => refuse_script(alloc, refusal, world),
         Err(Stop::Failed) => Status::InFault,
         Err(Stop::NoMemory) => Status::NoMemory,
@@ -100,12 +114,16 @@ fn deliver<W: World>(
     draft: &Draft,
     script: &Script,
     out: &str,
+    scale: u8,
     session: &mut Session,
     world: &mut W,
 ) -> Status
     requires fresh { session.old.state ≡ fresh_state }
     requires sound { IsSound draft.now }
-    ensures ends { Ends (commands_outcome draft.now script.now) out.now result session.new.state (W.told world.old)
+    requires fixed { BeginsFixed draft.now }
+    requires scale { scale ≤ 6 }
+    ensures ends { Ends (commands_outcome scale draft.now script.now) out.now result session.new.state
+        (W.told world.old)
         (W.told world.new) }
     ensures no_memory { result ≡ Status.NoMemory
         → (session.new.state ≡ fresh_state) ⊎ IsOnTheWay draft.now script.now session.new.state }
@@ -122,7 +140,10 @@ fn deliver<W: World>(
     };
     let commands = script.commands.as_slice();
     match run_commands(alloc, session, commands) {
-        Ok(replies) => conclude(alloc, session, commands, replies.as_slice(), out, world),
+        Ok(replies) => {
+            let replies = replies.as_slice();
+            conclude(alloc, session, commands, replies, out, scale, world)
+        }
         Err(_) => Status::NoMemory,
     }
 }
@@ -134,12 +155,15 @@ fn conclude<W: World>(
     commands: &[Command],
     replies: &[Reply],
     out: &str,
+    scale: u8,
     world: &mut W,
 ) -> Status
     requires sound { IsSoundState session.now.state }
+    requires fixed { BeginsFixed session.now.state.now }
+    requires scale { scale ≤ 6 }
     requires long { length replies.now ≡ length commands.now }
-    ensures ends { Ends (replies_outcome commands.now replies.now session.now.state) out.now result session.now.state
-        (W.told world.old) (W.told world.new) }
+    ensures ends { Ends (replies_outcome scale commands.now replies.now session.now.state) out.now result
+        session.now.state (W.told world.old) (W.told world.new) }
     ensures goes_on { is_past_script result ≡ true }
     ensures cause { Caused result (W.told world.old) (W.told world.new) }
     ensures by_status { EndsBy [] [] (out_starts out.now) result session.now.state (W.told world.old)
@@ -147,7 +171,7 @@ fn conclude<W: World>(
     ensures rest { (W.told world.new).rest ≡ (W.told world.old).rest }
     ensures finished { is_delivered result ≡ true → (W.told world.new).begun ≡ None }
 {
-    match write_file(alloc, world, out, session) {
+    match write_file(alloc, world, out, session, scale) {
         Ok(()) => print_report(alloc, session, commands, replies, world),
         Err(WorldFault::Failed) => Status::OutFault,
         Err(WorldFault::NoMemory) => Status::NoMemory,
@@ -164,7 +188,7 @@ fn print_report<W: World>(
 ) -> Status
     requires { length replies.now ≡ length commands.now }
     ensures status { is_answer result ≡ true
-        → result ≡ (replies_outcome commands.now replies.now session.now.state).status }
+        → result ≡ (if list_any is_refused replies.now then Status.SomeRefused else Status.Done) }
     ensures all { is_answer result ≡ true
         → W.told world.new ≡ record (W.told world.old) {
           printed =

@@ -47,6 +47,33 @@ fn run_words<W: World>(
 
 const WORDS: [&str; 5] = ["model", "script", "out", "--scale", "0"];
 
+// Whether a run at a scale, over a model that no command changes, writes this text.
+fn writes_at(alloc: Global, scale: &str, model: &str, made: &str) -> Result<bool, NoMemory> {
+    let mut world = world_of(alloc, model, "")?;
+    let words = ["model", "script", "out", "--scale", scale];
+    let ended = run_words(alloc, &words, &mut world)?;
+    Ok(ended == (0, 0) && is_made(&world, Some(made)))
+}
+
+#[test]
+fn each_scale(rt: HostRuntime) -> Result<(), Fail> {
+    for (scale, made) in [
+        ("0", "v 1 -2 0\n"),
+        ("1", "v 1.0 -2.0 0.0\n"),
+        ("2", "v 1.00 -2.00 0.00\n"),
+        ("3", "v 1.000 -2.000 0.000\n"),
+        ("4", "v 1.0000 -2.0000 0.0000\n"),
+        ("5", "v 1.00000 -2.00000 0.00000\n"),
+        ("6", "v 1.000000 -2.000000 0.000000\n"),
+    ] {
+        assert!(rt;
+            writes_at(rt.alloc(), scale, "v 1.0 -2 +.0\n", made)?,
+            "{scale}"
+        );
+    }
+    Ok(())
+}
+
 // Whether a run of a model and a script ends, makes and prints as expected.
 fn gives(
     alloc: Global,
@@ -113,14 +140,19 @@ fn several_commands_in_order(rt: HostRuntime) -> Result<(), Fail> {
 #[test]
 fn refused_inputs_print_one_line(rt: HostRuntime) -> Result<(), Fail> {
     for (model, script, code, line) in [
-        ("v 0 0 0\nl 1 2\n", CUT, 3, "model line 2: NotYet\n"),
-        ("v 0 0 0\nf 1 1 1\n", "undo\n", 3, "model line 2: NotYet\n"),
+        ("v 0 0 0\nl 1 2\n", CUT, 3, "model line 2: BadIndex\n"),
+        (
+            "v 0 0 0\nf 1 1 1\n",
+            "undo\n",
+            3,
+            "model line 2: Repeated\n",
+        ),
         ("v 0 0 0\n", "undo\n", 4, "script line 1: NotYet\n"),
         (
             SQUARE,
             "\n\ndelete geom=v0, context=verts\n",
             4,
-            "script line 3: NotYet\n",
+            "script line 3: BadExpression\n",
         ),
     ] {
         assert!(rt;
@@ -147,7 +179,7 @@ fn other_words_are_refused(rt: HostRuntime) -> Result<(), Fail> {
         &["model", "script"],
         &["model", "script", "out"],
         &["model", "script", "out", "--scale"],
-        &["model", "script", "out", "--scale", "1"],
+        &["model", "script", "out", "--scale", "7"],
         &["model", "script", "out", "--scale", "00"],
         &["model", "script", "out", "--scales", "0"],
         &["model", "script", "out", "--scale", "0", "0"],
@@ -237,9 +269,8 @@ fn feeds_give(
 fn texts_at_the_limit(rt: HostRuntime) -> Result<(), Fail> {
     let report = "end verts=0 edges=0 faces=0 corners=0 loose=0 refused=0 undo=0 redo=0\n";
     for (model, script, code, printed) in [
-        (65_536, 65_536, 0, report),
-        (65_537, 65_536, 3, "model line 0: NotYet\n"),
-        (65_536, 65_537, 4, "script line 0: NotYet\n"),
+        (65_536, 1_048_576, 0, report),
+        (65_536, 1_048_577, 4, "script line 0: TooLarge\n"),
     ] {
         assert!(rt;
             feeds_give(rt.alloc(), model, script, code, printed)?,

@@ -1,8 +1,9 @@
 //! The model and the script, read and judged.
 
-ghost use Rattle.std.specs.Prelude.{◌≡◌, ℕ, true, false, Some, IfOk};
+ghost use Rattle.std.specs.Prelude.{◌≡◌, ◌≤◌, ℕ, true, false, Some, IfOk};
 ghost use Rattle.mesh_model.specs.Valid.{IsSound};
 ghost use Rattle.obj_text.specs.Obj.{read_text};
+ghost use Rattle.obj_text.specs.Whole.{BeginsFixed};
 ghost use Rattle.script_text.specs.Script.{script_of};
 ghost use Rattle.worlds.specs.Files.{Files};
 ghost use Rattle.bmesh_run.specs.Job.{is_grid, is_tour, model_starts, script_starts};
@@ -20,21 +21,25 @@ use text_words::is_text;
 use worlds::{World, WorldFault};
 
 // How many bytes of a model are read at most, but for one more.
-const MODEL_LIMIT: usize = 65_536;
+const MODEL_LIMIT: usize = 268_435_456;
 
 // How many bytes of a script are read at most, but for one more.
-const SCRIPT_LIMIT: usize = 65_536;
+const SCRIPT_LIMIT: usize = 1_048_576;
 
-/// The complex of the model with this name: read to its end, or to one byte past the limit, and then
+/// The complex of the model with this name at a scale: read to its end, or to one byte past the limit, and then
 /// judged. No file is read for a model that is made from a number.
 pub fn read_model<W: World>(
     alloc: Global,
     world: &mut W,
     name: &str,
+    scale: u8,
 ) -> Result<Draft, Stop<ObjRefusal>>
-    ensures judged { (files : Files) → (W.told world.old).files ≡ Some files → Judges result (model_of name.now files) }
+    requires { scale ≤ 6 }
+    ensures judged { (files : Files) → (W.told world.old).files ≡ Some files
+        → Judges result (model_of scale name.now files) }
     ensures grid { is_grid name.now ≡ true → result ≡ Err (Stop.Refused grid_refusal) }
     ensures sound { IfOk result (λ d. IsSound d) }
+    ensures fixed { IfOk result (λ d. BeginsFixed d) }
     ensures still { is_grid name.now ≡ true → W.told world.new ≡ W.told world.old }
     ensures only { OnlyReads (W.told world.old) (W.told world.new) }
     ensures asked { AsksBefore result (model_starts name.now) (W.told world.old) (W.told world.new) }
@@ -49,19 +54,21 @@ pub fn read_model<W: World>(
         }));
     }
     match read_all(alloc, world, name, MODEL_LIMIT) {
-        Ok(bytes) => judge_model(alloc, &bytes),
+        Ok(bytes) => judge_model(alloc, scale, &bytes),
         Err(WorldFault::Failed) => Err(Stop::Failed),
         Err(WorldFault::NoMemory) => Err(Stop::NoMemory),
     }
 }
 
 // The complex of a model's bytes.
-fn judge_model(alloc: Global, bytes: &[u8]) -> Result<Draft, Stop<ObjRefusal>>
-    ensures judged { Judges result (read_text 0 bytes.now) }
+fn judge_model(alloc: Global, scale: u8, bytes: &[u8]) -> Result<Draft, Stop<ObjRefusal>>
+    requires { scale ≤ 6 }
+    ensures judged { Judges result (read_text scale bytes.now) }
     ensures sound { IfOk result (λ d. IsSound d) }
+    ensures fixed { IfOk result (λ d. BeginsFixed d) }
     ensures never { result ≡ Err Stop.Failed → ⊥ }
 {
-    let mut reader = Reader::new(alloc, 0);
+    let mut reader = Reader::new(alloc, scale);
     let Ok(()) = reader.feed(bytes) else {
         return Err(Stop::NoMemory);
     };

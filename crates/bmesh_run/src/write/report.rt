@@ -9,9 +9,9 @@ ghost use Rattle.bmesh_run.specs.Report.{count_line, reply_line, reply_lines, re
 ghost use Rattle.bmesh_run.specs.Report.{loose_count};
 ghost use Rattle.bmesh_run.specs.Report.{element_counts, command_counts, end_line, report};
 
-use mesh_model::slots::{Command, Slots};
 use mesh_model::{EdgeName, Elem, FaceName, NoMemory, Place, Refusal, Shape, VertName};
 use mesh_session::{Reply, Session};
+use op_slots::{Command, Slots};
 use std::alloc::Global;
 
 /// The report of some commands by their replies and the session after them.

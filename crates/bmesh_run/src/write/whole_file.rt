@@ -1,8 +1,8 @@
-ghost use Rattle.std.specs.Prelude.{◌≡◌, OnOk, Some};
+ghost use Rattle.std.specs.Prelude.{◌≡◌, ◌≤◌, OnOk, Some};
 ghost use Rattle.std.specs.Option.{option_map};
 ghost use Rattle.mesh_model.specs.Valid.{IsValid};
 ghost use Rattle.byte_sink.specs.Wrote.{with_after};
-ghost use Rattle.obj_text.specs.Written.{text};
+ghost use Rattle.obj_text.specs.Whole.{BeginsFixed, text};
 ghost use Rattle.worlds.specs.Files.{put};
 ghost use Rattle.worlds.specs.Told.{with_start};
 ghost use Rattle.bmesh_run.specs.Whole.{MakesPart, OnlyWrites, GainsStart, PrintsPart, CausesOut};
@@ -19,18 +19,21 @@ pub fn write_file<W: World, S: Shape>(
     world: &mut W,
     name: &str,
     shape: &S,
+    scale: u8,
 ) -> Result<(), WorldFault>
-    requires { IsValid (S.complex shape.now) }
+    requires valid { IsValid (S.complex shape.now) }
+    requires fixed { BeginsFixed (S.complex shape.now) }
+    requires scale { scale ≤ 6 }
     ensures ok { OnOk result (W.told world.new ≡ record (with_start (W.told world.old) name.now Writing) {
-      made = option_map (put name.now (text 0 (S.complex shape.now))) (W.told world.old).made;
+      made = option_map (put name.now (text scale (S.complex shape.now))) (W.told world.old).made;
       begun = None;
     }) }
-    ensures part { MakesPart (W.told world.old) (W.told world.new) name.now (text 0 (S.complex shape.now)) }
+    ensures part { MakesPart (W.told world.old) (W.told world.new) name.now (text scale (S.complex shape.now)) }
     ensures only { OnlyWrites (W.told world.old) (W.told world.new) }
     ensures started { GainsStart result (W.told world.old) (W.told world.new) name.now Writing }
     ensures cause { CausesOut result (W.told world.old) (W.told world.new) }
 {
-    begin_file(alloc, world, name, shape)?;
+    begin_file(alloc, world, name, shape, scale)?;
     world.finish()?;
     Ok(())
 }
@@ -41,19 +44,22 @@ pub fn begin_file<W: World, S: Shape>(
     world: &mut W,
     name: &str,
     shape: &S,
+    scale: u8,
 ) -> Result<(), WorldFault>
-    requires { IsValid (S.complex shape.now) }
+    requires valid { IsValid (S.complex shape.now) }
+    requires fixed { BeginsFixed (S.complex shape.now) }
+    requires scale { scale ≤ 6 }
     ensures ok { OnOk result (W.told world.new ≡ record (with_start (W.told world.old) name.now Writing) {
-      made = option_map (put name.now (text 0 (S.complex shape.now))) (W.told world.old).made;
+      made = option_map (put name.now (text scale (S.complex shape.now))) (W.told world.old).made;
       begun = Some name.now;
     }) }
-    ensures part { MakesPart (W.told world.old) (W.told world.new) name.now (text 0 (S.complex shape.now)) }
+    ensures part { MakesPart (W.told world.old) (W.told world.new) name.now (text scale (S.complex shape.now)) }
     ensures only { OnlyWrites (W.told world.old) (W.told world.new) }
     ensures started { GainsStart result (W.told world.old) (W.told world.new) name.now Writing }
     ensures cause { CausesOut result (W.told world.old) (W.told world.new) }
 {
     world.start_write(name)?;
-    write(alloc, shape, 0, world)?;
+    write(alloc, shape, scale, world)?;
     Ok(())
 }
 

@@ -13,3 +13,7 @@ returns-clause-nothing c = refl
 pub returns-clause-missing : goal.returns-clause-missing
 unfolding digits
 returns-clause-missing c = refl
+
+pub returns-clause-scale : goal.returns-clause-scale
+unfolding digits
+returns-clause-scale c = refl

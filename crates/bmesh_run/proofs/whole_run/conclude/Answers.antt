@@ -14,3 +14,6 @@ returns-in-Ok-clause-by_status g c =
 pub returns-in-Ok-clause-rest : goal.returns-in-Ok-clause-rest
 returns-in-Ok-clause-rest g c = ap (λ (t : Told). t.rest) c.print_report.ensures.part.1
     ∙ ap (λ (t : Told). t.rest) c.in-Ok.ensures.only
+
+pub returns-in-Err-Failed-clause-by_status : goal.returns-in-Err-Failed-clause-by_status
+returns-in-Err-Failed-clause-by_status g c = (1, rw c.in-Err-Failed.field-0-is at c.in-Err-Failed.ensures.started)

@@ -12,13 +12,14 @@ returns-in-Some g c =
       script = c.in-Some.job.script.now;
       out =
           c.in-Some.job.out.now;
+      scale = c.in-Some.job.scale;
     } in
     is_run_job (map string_bytes c.args.words.now) job c.run_job.result c.run_job.new.session.state
-    (tells c.args.world.now) (tells c.run_job.new.world) (sym c.in-Some.ensures)
+    (tells c.args.world.now) (tells c.run_job.new.world) (sym c.in-Some.ensures.told)
     c.run_job.ensures.runs c.run_job.ensures.usage
 
 pub returns-in-None : goal.returns-in-None
 returns-in-None g c =
     let tells = g.W.World.told in
     rw c.requires (is_run_usage (map string_bytes c.args.words.now) c.refuse_words.result (tells c.args.world.now)
-    (tells c.refuse_words.new.world) (sym c.in-None.ensures) c.refuse_words.ensures)
+    (tells c.refuse_words.new.world) (sym c.in-None.ensures.told) c.refuse_words.ensures)

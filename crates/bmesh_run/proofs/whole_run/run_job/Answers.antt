@@ -11,10 +11,15 @@ use Rattle.bmesh_run.proofs.whole_run.run_job.Goals as goal
 pub returns-in-Ok-clause-runs : goal.returns-in-Ok-clause-runs
 returns-in-Ok-clause-runs g c =
     let tells = g.W.World.told in
-    let job : Job = record { model = c.args.job.model.now; script = c.args.job.script.now; out = c.args.job.out.now } in
+    let job : Job = record {
+      model = c.args.job.model.now;
+      script = c.args.job.script.now;
+      out = c.args.job.out.now;
+      scale = c.args.job.scale;
+    } in
     let old = tells c.args.world.now in
     let mid = tells c.read_model.new.world in
-    let reads : ReadsInput {T = Complex} {R = ObjRefusal} (Ok c.in-Ok.draft) (model_of job.model) model_most
+    let reads : ReadsInput {T = Complex} {R = ObjRefusal} (Ok c.in-Ok.draft) (model_of job.scale job.model) model_most
     (model_starts job.model) old mid = record {
       judged = c.in-Ok.ensures.judged;
       only = c.in-Ok.ensures.only;
@@ -29,11 +34,16 @@ returns-in-Ok-clause-runs g c =
 pub returns-in-Err-Refused-clause-runs : goal.returns-in-Err-Refused-clause-runs
 returns-in-Err-Refused-clause-runs g c =
     let tells = g.W.World.told in
-    let job : Job = record { model = c.args.job.model.now; script = c.args.job.script.now; out = c.args.job.out.now } in
+    let job : Job = record {
+      model = c.args.job.model.now;
+      script = c.args.job.script.now;
+      out = c.args.job.out.now;
+      scale = c.args.job.scale;
+    } in
     let old = tells c.args.world.now in
     let mid = tells c.read_model.new.world in
     let reads : ReadsInput {T = Complex} {R = ObjRefusal} (Err (stop.Refused c.in-Err-Refused.refusal))
-    (model_of job.model) model_most (model_starts job.model) old mid = record {
+    (model_of job.scale job.model) model_most (model_starts job.model) old mid = record {
       judged = λ files told. rw c.in-Err-Refused.field-0-is at (c.in-Err-Refused.ensures.judged files told);
       only = c.in-Err-Refused.ensures.only;
       asked = rw c.in-Err-Refused.field-0-is at c.in-Err-Refused.ensures.asked;
@@ -42,13 +52,18 @@ returns-in-Err-Refused-clause-runs g c =
           (λ no. (rw c.in-Err-Refused.field-0-is at (c.in-Err-Refused.ensures.left no)) files told);
       cause = rw c.in-Err-Refused.field-0-is at c.in-Err-Refused.ensures.cause;
     } in
-    rw c.requires (refused_model job c.in-Err-Refused.refusal c.refuse_model.result old mid
+    rw c.requires.fresh (refused_model job c.in-Err-Refused.refusal c.refuse_model.result old mid
     (tells c.refuse_model.new.world) reads c.refuse_model.ensures)
 
 pub returns-in-Err-Refused-clause-usage : goal.returns-in-Err-Refused-clause-usage
 returns-in-Err-Refused-clause-usage g c =
     let tells = g.W.World.told in
-    let job : Job = record { model = c.args.job.model.now; script = c.args.job.script.now; out = c.args.job.out.now } in
+    let job : Job = record {
+      model = c.args.job.model.now;
+      script = c.args.job.script.now;
+      out = c.args.job.out.now;
+      scale = c.args.job.scale;
+    } in
     let old = tells c.args.world.now in
     let mid = tells c.read_model.new.world in
     usage_refused job c.in-Err-Refused.refusal (model_line c.in-Err-Refused.refusal) c.refuse_model.result mid
@@ -58,10 +73,15 @@ returns-in-Err-Refused-clause-usage g c =
 pub returns-in-Err-Failed-clause-runs : goal.returns-in-Err-Failed-clause-runs
 returns-in-Err-Failed-clause-runs g c =
     let tells = g.W.World.told in
-    let job : Job = record { model = c.args.job.model.now; script = c.args.job.script.now; out = c.args.job.out.now } in
+    let job : Job = record {
+      model = c.args.job.model.now;
+      script = c.args.job.script.now;
+      out = c.args.job.out.now;
+      scale = c.args.job.scale;
+    } in
     let old = tells c.args.world.now in
     let mid = tells c.read_model.new.world in
-    let reads : ReadsInput {T = Complex} {R = ObjRefusal} (Err stop.Failed) (model_of job.model) model_most
+    let reads : ReadsInput {T = Complex} {R = ObjRefusal} (Err stop.Failed) (model_of job.scale job.model) model_most
     (model_starts job.model) old mid = record {
       judged = λ files told. rw c.in-Err-Failed.field-0-is at (c.in-Err-Failed.ensures.judged files told);
       only = c.in-Err-Failed.ensures.only;
@@ -69,15 +89,20 @@ returns-in-Err-Failed-clause-runs g c =
       left = λ files told. tt;
       cause = rw c.in-Err-Failed.field-0-is at c.in-Err-Failed.ensures.cause;
     } in
-    rw c.requires (failed_model job old mid reads)
+    rw c.requires.fresh (failed_model job old mid reads)
 
 pub returns-in-Err-NoMemory-clause-runs : goal.returns-in-Err-NoMemory-clause-runs
 returns-in-Err-NoMemory-clause-runs g c =
     let tells = g.W.World.told in
-    let job : Job = record { model = c.args.job.model.now; script = c.args.job.script.now; out = c.args.job.out.now } in
+    let job : Job = record {
+      model = c.args.job.model.now;
+      script = c.args.job.script.now;
+      out = c.args.job.out.now;
+      scale = c.args.job.scale;
+    } in
     let old = tells c.args.world.now in
     let mid = tells c.read_model.new.world in
-    let reads : ReadsInput {T = Complex} {R = ObjRefusal} (Err stop.NoMemory) (model_of job.model) model_most
+    let reads : ReadsInput {T = Complex} {R = ObjRefusal} (Err stop.NoMemory) (model_of job.scale job.model) model_most
     (model_starts job.model) old mid = record {
       judged = λ files told. rw c.in-Err-NoMemory.field-0-is at (c.in-Err-NoMemory.ensures.judged files told);
       only = c.in-Err-NoMemory.ensures.only;
@@ -85,4 +110,4 @@ returns-in-Err-NoMemory-clause-runs g c =
       left = λ files told. tt;
       cause = rw c.in-Err-NoMemory.field-0-is at c.in-Err-NoMemory.ensures.cause;
     } in
-    rw c.requires (unread_model job old mid reads)
+    rw c.requires.fresh (unread_model job old mid reads)

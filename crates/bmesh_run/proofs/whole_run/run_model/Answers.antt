@@ -25,7 +25,7 @@ returns-in-Ok-clause-runs g c =
       cause = c.in-Ok.ensures.cause;
     } in
     let done = c.deliver.ensures in
-    after_script draft c.in-Ok.script script out c.deliver.result c.deliver.new.session.state old mid
+    after_script c.args.scale draft c.in-Ok.script script out c.deliver.result c.deliver.new.session.state old mid
     (tells c.deliver.new.world) reads done.goes_on done.ends done.no_memory done.cause done.by_status done.rest
     done.finished done.sound
 
@@ -46,7 +46,8 @@ returns-in-Err-Refused-clause-runs g c =
           (λ no. (rw c.in-Err-Refused.field-0-is at (c.in-Err-Refused.ensures.left no)) files told);
       cause = rw c.in-Err-Refused.field-0-is at c.in-Err-Refused.ensures.cause;
     } in
-    rw c.requires.fresh (refused_script draft c.in-Err-Refused.refusal script out c.refuse_script.result old mid
+    rw c.requires.fresh (refused_script c.args.scale draft c.in-Err-Refused.refusal script out c.refuse_script.result
+    old mid
     (tells c.refuse_script.new.world) reads c.refuse_script.ensures)
 
 pub returns-in-Err-Failed-clause-runs : goal.returns-in-Err-Failed-clause-runs
@@ -65,7 +66,7 @@ returns-in-Err-Failed-clause-runs g c =
       left = λ files told. tt;
       cause = rw c.in-Err-Failed.field-0-is at c.in-Err-Failed.ensures.cause;
     } in
-    rw c.requires.fresh (failed_script draft script out old mid reads)
+    rw c.requires.fresh (failed_script c.args.scale draft script out old mid reads)
 
 pub returns-in-Err-NoMemory-clause-runs : goal.returns-in-Err-NoMemory-clause-runs
 returns-in-Err-NoMemory-clause-runs g c =
@@ -83,4 +84,4 @@ returns-in-Err-NoMemory-clause-runs g c =
       left = λ files told. tt;
       cause = rw c.in-Err-NoMemory.field-0-is at c.in-Err-NoMemory.ensures.cause;
     } in
-    rw c.requires.fresh (unread_script draft script out old mid reads)
+    rw c.requires.fresh (unread_script c.args.scale draft script out old mid reads)

@@ -3,7 +3,7 @@ use Rattle.std.proofs.lemmas.List.{append-nil}
 use Rattle.std.proofs.lemmas.Grind.{flat_map-append}
 use Rattle.std.specs.List.{flat_map, zip}
 use Rattle.std.specs.String.{string_bytes}
-use Rattle.mesh_model.specs.declared.slots.Command.{Command}
+use Rattle.op_slots.specs.declared.command.Command.{Command}
 use Rattle.mesh_session.specs.declared.reply.Reply.{Reply}
 use Rattle.bmesh_run.specs.Report.{reply_line}
 use Rattle.bmesh_run.proofs.Lines.{take-zip, all-zip}

@@ -1,7 +1,7 @@
 use Rattle.std.proofs.Common.{◌≡◌, ℕ, List, sym, ap, ◌∙◌, inr, Option, Some, take}
 use Rattle.std.specs.Option.{option_map}
 use Rattle.byte_sink.specs.Wrote.{with_after}
-use Rattle.obj_text.specs.Written.{text}
+use Rattle.obj_text.specs.Whole.{text}
 use Rattle.worlds.specs.Files.{put}
 use Rattle.worlds.specs.Told.{Told, with_start}
 use Rattle.worlds.specs.declared.start.Purpose.TheVariants.{Writing}
@@ -15,7 +15,7 @@ returns-in_err-write-clause-part g c =
     let before = c.start_write.new.self in
     let after = c.write.new.sink in
     let part = c.in_err-write.ensures.part in
-    let piece : List ℕ = take part.0 (text 0 (g.S.Shape.complex c.args.shape.now)) in
+    let piece : List ℕ = take part.0 (text c.args.scale (g.S.Shape.complex c.args.shape.now)) in
     inr (
       part.0,
       made_begun (told c.args.world.now) (told before) (told after) c.args.name.now piece c.in_ok-start_write.ensures
@@ -41,7 +41,7 @@ returns-clause-ok g c =
     let after = c.write.new.sink in
     let old = told c.args.world.now in
     let name = c.args.name.now in
-    let bytes = (text 0 (g.S.Shape.complex c.args.shape.now)) in
+    let bytes = (text c.args.scale (g.S.Shape.complex c.args.shape.now)) in
     let count : (told after).out_faults ≡ old.out_faults =
     sym (law.sink_is_begun after).1 ∙ c.in_ok-write.ensures.cause ∙ (law.sink_is_begun before).1
     ∙ ap (λ (t : Told). t.out_faults) c.in_ok-start_write.ensures in
@@ -63,7 +63,7 @@ returns-clause-part g c =
     let after = c.write.new.sink in
     let old = told c.args.world.now in
     let name = c.args.name.now in
-    let bytes = (text 0 (g.S.Shape.complex c.args.shape.now)) in
+    let bytes = (text c.args.scale (g.S.Shape.complex c.args.shape.now)) in
     makes_all old (told after) name bytes
     (made_begun old (told before) (told after) name bytes c.in_ok-start_write.ensures
     (law.others_is_rest after before c.in_ok-write.ensures.others)
