@@ -1,15 +1,2 @@
 pub mod Seen
-pub mod AtSlots
-pub mod ReadOff
-pub mod Room
-pub mod Changes
-pub mod Whole
-pub mod StandsFor
-pub mod Frames
-pub mod Puts
-pub mod Faces
-pub mod Takes
-pub mod TakesEdge
-pub mod Gone
 pub mod Left
-pub mod Rows

@@ -1,20 +1,12 @@
 -- What contracts see of a mesh.
-use Rattle.std.specs.Prelude.{ℕ, List}
+use Rattle.std.specs.Prelude.{◌≡◌, ◌^◌, List}
 use Rattle.mesh_store.specs.Stored.{Stored}
 use Rattle.mesh_model.specs.Complex.{Complex}
+use Rattle.mesh_model.specs.declared.names.EdgeName.{EdgeName}
 use Rattle.mesh_model.specs.declared.records.Counters.{Counters}
-
--- the names of materials and of their libraries, each in bytes
-pub record NameLists : Type 0 where
-  pub materials : List (List ℕ)
-  pub libraries : List (List ℕ)
-
--- so many elements of each kind
-pub record Amounts : Type 0 where
-  pub verts : ℕ
-  pub edges : ℕ
-  pub corners : ℕ
-  pub faces : ℕ
+use Rattle.mesh_records.specs.ReadOff.{NameLists, table, disk_at, read_off}
+use Rattle.mesh_records.specs.Room.{Amounts, room_in}
+use Rattle.mesh_records.specs.StandsFor.{StandsFor}
 
 -- the store; the next names and the number of live corners; the two lists of names; the complex to which there is a way
 -- back; and how many records can still be noted for that way without memory
@@ -24,3 +16,29 @@ pub record Seen : Type 0 where
   pub lists : NameLists
   pub base : Complex
   pub notes : Amounts
+
+-- the complex that a mesh stands for
+abbrev pub now : Seen → Complex
+now m = read_off m.stored m.next m.lists
+
+-- for each name of a vertex, the edges around the vertex
+abbrev pub disks : Seen → List (List EdgeName)
+disks m = table (disk_at m.stored) m.next.verts
+
+-- how many elements can be added to a mesh without memory
+abbrev pub room : Seen → Amounts
+room m = room_in m.stored m.next
+
+-- where the base is kept whole no note takes memory, and there are never more elements than this
+abbrev pub notes_of_a_copy : Amounts
+notes_of_a_copy = record { verts = 2 ^ 24; edges = 2 ^ 24; corners = 2 ^ 24; faces = 2 ^ 24 }
+
+-- now, base and the disk lists are as before
+pub record IsAsBefore (old new : Seen) : Type 0 where
+  pub now : now new ≡ now old
+  pub base : new.base ≡ old.base
+  pub disks : disks new ≡ disks old
+
+-- a mesh's own store, with its next names and its lists of names, stands for its complex
+abbrev pub CyclesHold : Seen → Type 0
+CyclesHold m = StandsFor m.stored m.next m.lists (now m)

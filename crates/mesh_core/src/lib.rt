@@ -7,24 +7,37 @@
 //! `room`, how many elements can be added without memory; and `notes`, how many records can be noted for the way back
 //! without memory.
 //!
-//! `StandsFor` of `specs/StandsFor.antt` says, part by part, when a store stands for a complex.
+//! `StandsFor` of `mesh_records` says, part by part, when a store, with its next names and the names of materials and
+//! libraries, stands for a complex.
 //!
 //! | Call | Cost |
 //! |---|---|
-//! | `new`, `counters`, `cycles_hold`, `edges_of_vert`, `reserve_notes` | constant |
+//! | `new`, `cycles_hold`, `reserve_notes` | constant |
+//! | iterators | constant to make; what an item costs is said at each |
+//! | reading a mesh as a shape | said there |
+//! | `snapshot` | the names and the corners |
 //! | `find_edge` | the edges around the vertex that has fewer |
 //! | `make_vert`, `make_edge` | constant, but for the room that is made |
 //! | `make_face` | its corners, and the room that is made |
 //! | `kill_face`, `kill_edge`, `kill_vert` | the edges and corners that go |
+//! | `set_point`, `set_end` | constant |
+//! | `set_vert_vals`, `set_edge_vals`, `set_face_vals` | the row of values |
+//! | `set_corner_vals`, `remove_corner` | the position, and the row of values |
+//! | `insert_corner`, `reface`, `reverse_face` | the corners, and the room that is made |
 //! | `reserve` | the room that is made |
 #![tactic(auto)]
 
 mod around;
-pub mod laws;
+mod changing;
+mod corners;
 mod mesh;
-mod steps;
-mod taking;
+mod mesh_shape;
+mod rising;
 
-pub use around::EdgesAt;
+pub use around::{EdgesAt, FacesAtEdge, FacesAtVert};
+pub use corners::{CornersAtEdge, CornersAtVert, CornersIn};
 pub use mesh::Mesh;
-pub use mesh_model::{Draft, EdgeName, FaceName, NoMemory, Point, VertName};
+pub use mesh_model::{
+    Draft, EdgeName, Elem, FaceName, Kind, NoMemory, Point, Rule, Shape, VertName,
+};
+pub use rising::{EdgesByName, FacesByName, VertsByName};

@@ -3,29 +3,47 @@ ghost use Rattle.std.specs.Prelude.{◌≡◌, ◌≢◌, ◌<◌, ◌≤◌, �
 ghost use Rattle.std.specs.Prelude.{◌∷◌, length, slice_index_or, IfSome, IfOk, OnOk, OnErr, IsOk};
 ghost use Rattle.std.specs.Prelude.{true, not, MatchOption};
 ghost use Rattle.std.specs.List.{All};
-ghost use Rattle.mesh_model.specs.Complex.{no_complex, counters_of, corners_of, corner_sum};
+ghost use Rattle.mesh_model.specs.Complex.{no_complex, corners_of, corner_sum};
 ghost use Rattle.mesh_model.specs.Kernel.{with_vert_like, with_edge_like, with_face_like};
 ghost use Rattle.mesh_model.specs.Kernel.{without_face, without_edge, without_vert, uses_edge_at, can_lose_vert};
 ghost use Rattle.mesh_model.specs.Table.{at, IsThere, passes, kept};
-ghost use Rattle.mesh_model.specs.Valid.{IsLinked};
-ghost use Rattle.mesh_model.specs.Incidence.{has_end, uses_edge, edge_joining, is_loose, is_bare};
-ghost use Rattle.mesh_core.specs.ReadOff.{now, disks};
-ghost use Rattle.mesh_core.specs.Room.{room, Covers, UsesAtMost, none_of_all, of_verts, of_edges, of_face};
-ghost use Rattle.mesh_core.specs.Room.{gone_with_edge, gone_with_vert, IsAsBefore};
-ghost use Rattle.mesh_core.specs.Changes.{with_last, only_without_edge, only_without_vert, without_name};
-ghost use Rattle.mesh_core.specs.Changes.{has_no_corner, without_edges_at};
-ghost use Rattle.mesh_core.specs.StandsFor.{CyclesHold};
+ghost use Rattle.mesh_model.specs.Incidence.{corners_at_edge, corners_at_vert, has_end, uses_edge, edge_joining};
+ghost use Rattle.mesh_model.specs.Incidence.{is_loose, is_bare};
+ghost use Rattle.mesh_model.specs.Valid.{IsValid};
+ghost use Rattle.mesh_core.specs.Seen.{now, disks};
+ghost use Rattle.mesh_core.specs.Seen.{room};
+ghost use Rattle.mesh_records.specs.Room.{Covers, UsesAtMost, none_of_all, of_verts, of_edges, of_face};
+ghost use Rattle.mesh_records.specs.Room.{gone_with_edge, gone_with_vert};
+ghost use Rattle.mesh_core.specs.Seen.{IsAsBefore};
+ghost use Rattle.mesh_records.specs.Changes.{with_last, only_without_edge, only_without_vert, without_name};
+ghost use Rattle.mesh_records.specs.Changes.{has_no_corner, without_edges_at};
+ghost use Rattle.mesh_core.specs.Seen.{CyclesHold};
+ghost use Rattle.mesh_records.specs.StandsFor.{ListsOnce};
+ghost use Rattle.mesh_records.specs.Order.{verts_in_order, edges_in_order, faces_in_order};
+ghost use Rattle.mesh_records.specs.Order.{corners_of_vert, faces_of_vert, faces_at_edge};
 ghost use Rattle.mesh_core.specs.Left.{edges_at_left, CanGiveEdgesAt};
+ghost use Rattle.mesh_core.specs.Left.{verts_by_name_left, edges_by_name_left, faces_by_name_left};
+ghost use Rattle.mesh_core.specs.Left.{CanGiveVertsByName, CanGiveEdgesByName, CanGiveFacesByName};
+ghost use Rattle.mesh_core.specs.Left.{corners_at_edge_left, CanGiveCornersAtEdge};
+ghost use Rattle.mesh_core.specs.Left.{corners_at_vert_left, CanGiveCornersAtVert};
+ghost use Rattle.mesh_core.specs.Left.{faces_at_edge_left, CanGiveFacesAtEdge};
+ghost use Rattle.mesh_core.specs.Left.{faces_at_vert_left, CanGiveFacesAtVert};
+ghost use Rattle.mesh_core.specs.Left.{corners_in_left, CanGiveCornersIn, places_from};
 
-use crate::around::{EdgesAt, edges_at};
-use crate::steps::{
-    coordinates, edge_like, face_like, make_room, put_edge, put_face, put_vert, slot_of_edge,
-    slot_of_vert, vert_like,
+use crate::around::{EdgesAt, FacesAtEdge, FacesAtVert, edges_at, faces_at_edge, faces_at_vert};
+use crate::corners::{
+    CornersAtEdge, CornersAtVert, CornersIn, corners_at_edge, corners_at_vert, corners_in,
 };
-use crate::taking::{slot_of_face, take_edge, take_loops};
+use crate::rising::{
+    EdgesByName, FacesByName, VertsByName, edges_by_name, faces_by_name, verts_by_name,
+};
 use mesh_cycles::edge_between;
 use mesh_model::limits::{MAX_EDGES, MAX_FACES, MAX_VERTS};
 use mesh_model::{Counters, Draft, EdgeName, FaceName, NoMemory, Point, Sequence, Text, VertName};
+use mesh_records::{
+    coordinates, edge_like, face_like, make_room, put_edge, put_face, put_vert, slot_of_edge,
+    slot_of_face, slot_of_vert, take_edge, take_loops, vert_like,
+};
 use mesh_store::Store;
 use std::alloc::Global;
 use std::marker::Model;
@@ -36,10 +54,11 @@ use std::marker::Model;
 /// around each vertex in order (`disks`), and how much can be added and noted without memory (`room`, `notes`).
 #[derive(Drop)]
 pub struct Mesh {
-    store: Store,
-    next: Counters,
-    materials: Sequence<Text>,
-    libraries: Sequence<Text>,
+    alloc: Global,
+    pub(crate) store: Store,
+    pub(crate) next: Counters,
+    pub(crate) materials: Sequence<Text>,
+    pub(crate) libraries: Sequence<Text>,
     // The complex to which there is a way back, whole.
     base: Draft,
 }
@@ -49,8 +68,8 @@ impl Model for Mesh {
 
     ghost Value = { Seen };
 
-    ghost use Rattle.mesh_core.specs.Room.{notes_of_a_copy};
-    ghost use Rattle.mesh_core.specs.Whole.{IsWhole};
+    ghost use Rattle.mesh_core.specs.Seen.{notes_of_a_copy};
+    ghost use Rattle.mesh_records.specs.Whole.{IsWhole};
 
     ghost view = { λ m. record {
       stored = m.store;
@@ -71,6 +90,7 @@ impl Mesh {
         ensures disks { disks result ≡ [] }
     {
         Mesh {
+            alloc,
             store: Store::new(alloc),
             next: Counters {
                 verts: 0,
@@ -82,23 +102,6 @@ impl Mesh {
             libraries: Sequence::new(alloc),
             base: Draft::bare(alloc),
         }
-    }
-
-    /// The next names, and the number of live corners. What a mesh stands for is always linked. Constant time.
-    pub fn counters(&self) -> Counters
-        ensures counters { result ≡ counters_of (now self.now) }
-        ensures linked { IsLinked (now self.now) }
-    {
-        self.next
-    }
-
-    /// The edges around a live vertex, in the order of `disks`. Constant time.
-    pub fn edges_of_vert(&self, v: VertName) -> EdgesAt<'_>
-        requires { IsThere (now self.now).verts v.0 }
-        ensures items { edges_at_left result ≡ slice_index_or (disks self.now) v.0 [] }
-        ensures ready { CanGiveEdgesAt result }
-    {
-        edges_at(&self.store, v.0)
     }
 
     /// The edge of the least name that joins two live vertices, and `None` exactly where none does. It takes time that
@@ -116,11 +119,105 @@ impl Mesh {
         }
     }
 
+    /// The complex as a draft, in time that grows with its names and corners. Each face is read in one walk.
+    pub fn snapshot(&self) -> Result<Draft, NoMemory>
+        ensures { IfOk result (λ d. d ≡ now self.now) }
+    {
+        Draft::copy_of(self.alloc, self)
+    }
+
     /// Does nothing. The store of the mesh stands for `now`: every cycle visits exactly its members.
     pub fn cycles_hold(&self)
         ensures { CyclesHold self.now }
     {
         let _ = &self.next;
+    }
+}
+
+/// Iterators.
+impl Mesh {
+    /// The vertices by rising name. Constant time.
+    pub fn verts_rising(&self) -> VertsByName<'_>
+        ensures items { verts_by_name_left result ≡ verts_in_order (now self.now) }
+        ensures ready { CanGiveVertsByName result }
+    {
+        verts_by_name(&self.store)
+    }
+
+    /// The edges by rising name. Constant time.
+    pub fn edges_rising(&self) -> EdgesByName<'_>
+        ensures items { edges_by_name_left result ≡ edges_in_order (now self.now) }
+        ensures ready { CanGiveEdgesByName result }
+    {
+        edges_by_name(&self.store)
+    }
+
+    /// The faces by rising name. Constant time.
+    pub fn faces_rising(&self) -> FacesByName<'_>
+        ensures items { faces_by_name_left result ≡ faces_in_order (now self.now) }
+        ensures ready { CanGiveFacesByName result }
+    {
+        faces_by_name(&self.store)
+    }
+
+    /// The edges around a live vertex, in the order of `disks`. Constant time.
+    pub fn edges_of_vert(&self, v: VertName) -> EdgesAt<'_>
+        requires { IsThere (now self.now).verts v.0 }
+        ensures items { edges_at_left result ≡ slice_index_or (disks self.now) v.0 [] }
+        ensures ready { CanGiveEdgesAt result }
+    {
+        edges_at(&self.store, v.0)
+    }
+
+    /// The corners at a live vertex whose edges end there, each once: in a valid complex all corners there. Constant
+    /// time.
+    pub fn loops_of_vert(&self, v: VertName) -> CornersAtVert<'_>
+        requires { IsThere (now self.now).verts v.0 }
+        ensures items { ListsOnce (corners_at_vert_left result) (corners_of_vert (now self.now) v) }
+        ensures valid { IsValid (now self.now) → corners_of_vert (now self.now) v ≡ corners_at_vert (now self.now) v }
+        ensures ready { CanGiveCornersAtVert result }
+    {
+        let vert = slot_of_vert(&self.store, v.0);
+        corners_at_vert(&self.store, vert)
+    }
+
+    /// The faces with a corner at a live vertex whose edge ends there, each once. Constant time.
+    pub fn faces_of_vert(&self, v: VertName) -> FacesAtVert<'_>
+        requires { IsThere (now self.now).verts v.0 }
+        ensures items { ListsOnce (faces_at_vert_left result) (faces_of_vert (now self.now) v) }
+        ensures ready { CanGiveFacesAtVert result }
+    {
+        let vert = slot_of_vert(&self.store, v.0);
+        faces_at_vert(&self.store, vert)
+    }
+
+    /// The corners along a live edge, each once, in the order of the cycle around it. Constant time.
+    pub fn loops_of_edge(&self, e: EdgeName) -> CornersAtEdge<'_>
+        requires { IsThere (now self.now).edges e.0 }
+        ensures items { ListsOnce (corners_at_edge_left result) (corners_at_edge (now self.now) e) }
+        ensures ready { CanGiveCornersAtEdge result }
+    {
+        let edge = slot_of_edge(&self.store, e.0);
+        corners_at_edge(&self.store, edge)
+    }
+
+    /// The corners of a live face in order. Constant time.
+    pub fn corners_of_face(&self, f: FaceName) -> CornersIn<'_>
+        requires { IsThere (now self.now).faces f.0 }
+        ensures items { corners_in_left result ≡ places_from f 0 (length (corners_of (at (now self.now).faces f.0))) }
+        ensures ready { CanGiveCornersIn result }
+    {
+        corners_in(self, f)
+    }
+
+    /// The faces along a live edge, each once. Constant time.
+    pub fn faces_of_edge(&self, e: EdgeName) -> FacesAtEdge<'_>
+        requires { IsThere (now self.now).edges e.0 }
+        ensures items { ListsOnce (faces_at_edge_left result) (faces_at_edge (now self.now) e) }
+        ensures ready { CanGiveFacesAtEdge result }
+    {
+        let edge = slot_of_edge(&self.store, e.0);
+        faces_at_edge(&self.store, edge)
     }
 }
 
@@ -427,7 +524,7 @@ impl Mesh {
     }
 
     // A face that uses a live edge, if there is one.
-    fn face_along(&self, e: EdgeName) -> Option<FaceName>
+    pub(crate) fn face_along(&self, e: EdgeName) -> Option<FaceName>
         requires { IsThere (now self.now).edges e.0 }
         ensures { MatchOption result (is_loose (now self.now) e ≡ true)
             (λ f. passes (uses_edge e) (at (now self.now).faces f.0) ≡ true) }

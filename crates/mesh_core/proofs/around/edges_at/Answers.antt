@@ -1,4 +1,4 @@
-use Rattle.mesh_core.proofs.Elements.{name_live}
+use Rattle.mesh_records.proofs.Elements.{name_live}
 use Rattle.mesh_core.proofs.around.edges_at.Goals as goal
 
 pub edges_of_vert-requires-clause-live : goal.edges_of_vert-requires-clause-live

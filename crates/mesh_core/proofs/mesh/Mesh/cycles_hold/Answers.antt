@@ -1,7 +1,7 @@
 use Rattle.std.proofs.Common.{subst}
-use Rattle.mesh_core.specs.Seen.{NameLists}
-use Rattle.mesh_core.specs.StandsFor.{CyclesHold}
-use Rattle.mesh_core.proofs.Stands.{stands_for}
+use Rattle.mesh_records.specs.ReadOff.{NameLists}
+use Rattle.mesh_core.specs.Seen.{CyclesHold}
+use Rattle.mesh_records.proofs.Stands.{stands_for}
 use Rattle.mesh_core.proofs.mesh.Mesh.cycles_hold.Goals as goal
 
 pub returns : goal.returns

@@ -3,13 +3,14 @@ use Rattle.mesh_cycles.proofs.Around.{edge_live}
 use Rattle.mesh_model.specs.Table.{at, passes}
 use Rattle.mesh_model.specs.Incidence.{is_bare, has_end}
 use Rattle.mesh_model.specs.Complex.{Complex}
-use Rattle.mesh_core.specs.Seen.{NameLists}
-use Rattle.mesh_core.specs.AtSlots.{StoredEdge, edge_in}
-use Rattle.mesh_core.specs.ReadOff.{now, read_off}
-use Rattle.mesh_core.proofs.AtVert.{first_around, first_passes, none_bare}
-use Rattle.mesh_core.proofs.ByName.{told_number}
-use Rattle.mesh_core.proofs.Elements.{name_live, edge_number}
-use Rattle.mesh_core.proofs.Examples.{vert_of_name}
+use Rattle.mesh_records.specs.ReadOff.{NameLists}
+use Rattle.mesh_records.specs.AtSlots.{StoredEdge, edge_in}
+use Rattle.mesh_core.specs.Seen.{now}
+use Rattle.mesh_records.specs.ReadOff.{read_off}
+use Rattle.mesh_records.proofs.AtVert.{first_around, first_passes, none_bare}
+use Rattle.mesh_records.proofs.ByName.{told_number}
+use Rattle.mesh_records.proofs.Elements.{name_live, edge_number}
+use Rattle.mesh_records.proofs.Examples.{vert_of_name}
 use Rattle.mesh_core.proofs.mesh.Mesh.edge_at.Goals as goal
 
 pub slot_of_vert-vert-requires : goal.slot_of_vert-vert-requires

@@ -1,8 +1,9 @@
 use Rattle.std.proofs.Common.{[], sym, ap, ◌∙◌}
 use Rattle.mesh_core.specs.Seen.{Seen}
-use Rattle.mesh_core.specs.ReadOff.{now, disk_at, vert_at}
-use Rattle.mesh_core.proofs.Tables.{at_table, below_bound}
-use Rattle.mesh_core.proofs.Examples.{vert_of_name}
+use Rattle.mesh_core.specs.Seen.{now}
+use Rattle.mesh_records.specs.ReadOff.{disk_at, vert_at}
+use Rattle.mesh_records.proofs.Tables.{at_table, below_bound}
+use Rattle.mesh_records.proofs.Examples.{vert_of_name}
 use Rattle.mesh_core.proofs.mesh.Mesh.edges_of_vert.Goals as goal
 
 pub edges_at-requires-clause-named : goal.edges_at-requires-clause-named

@@ -2,12 +2,12 @@ use Rattle.std.proofs.Common.{sym, ap, ◌∙◌}
 use Rattle.mesh_model.specs.Table.{at, passes}
 use Rattle.mesh_model.specs.Incidence.{is_loose, uses_edge}
 use Rattle.mesh_model.specs.Complex.{Complex}
-use Rattle.mesh_core.specs.Seen.{NameLists}
-use Rattle.mesh_core.specs.ReadOff.{now}
-use Rattle.mesh_core.proofs.Elements.{name_live}
-use Rattle.mesh_core.proofs.Examples.{edge_of_name}
-use Rattle.mesh_core.proofs.Along.{first_uses, none_uses}
-use Rattle.mesh_core.proofs.Owners.{loop_face}
+use Rattle.mesh_records.specs.ReadOff.{NameLists}
+use Rattle.mesh_core.specs.Seen.{now}
+use Rattle.mesh_records.proofs.Elements.{name_live}
+use Rattle.mesh_records.proofs.Examples.{edge_of_name}
+use Rattle.mesh_records.proofs.Along.{first_uses, none_uses}
+use Rattle.mesh_records.proofs.Owners.{loop_face}
 use Rattle.mesh_core.proofs.mesh.Mesh.face_along.Goals as goal
 
 pub slot_of_edge-edge-requires : goal.slot_of_edge-edge-requires

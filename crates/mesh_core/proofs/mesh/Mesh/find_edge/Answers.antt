@@ -1,10 +1,10 @@
 use Rattle.std.proofs.Common.{sym, ap, ◌∙◌}
 use Rattle.mesh_model.specs.Complex.{Complex}
 use Rattle.mesh_model.specs.Incidence.{edge_joining}
-use Rattle.mesh_core.specs.ReadOff.{now}
-use Rattle.mesh_core.proofs.Elements.{name_live}
-use Rattle.mesh_core.proofs.Examples.{vert_of_name}
-use Rattle.mesh_core.proofs.FindEdge.{joined_live, none_joining, first_joining}
+use Rattle.mesh_core.specs.Seen.{now}
+use Rattle.mesh_records.proofs.Elements.{name_live}
+use Rattle.mesh_records.proofs.Examples.{vert_of_name}
+use Rattle.mesh_records.proofs.FindEdge.{joined_live, none_joining, first_joining}
 use Rattle.mesh_core.proofs.mesh.Mesh.find_edge.Goals as goal
 
 pub slot_of_vert-from-requires : goal.slot_of_vert-from-requires

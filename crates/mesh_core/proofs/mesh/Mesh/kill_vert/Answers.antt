@@ -2,9 +2,9 @@ use Rattle.std.proofs.Common.{List, Option, sym, ap, ◌∙◌, subst}
 use Rattle.mesh_model.specs.Table.{IsThere}
 use Rattle.mesh_model.specs.Complex.{Complex}
 use Rattle.mesh_model.specs.declared.records.VertRec.{VertRec}
-use Rattle.mesh_core.specs.Changes.{only_without_vert}
-use Rattle.mesh_core.specs.ReadOff.{now}
-use Rattle.mesh_core.proofs.EdgesGone.{no_corner_left}
+use Rattle.mesh_records.specs.Changes.{only_without_vert}
+use Rattle.mesh_core.specs.Seen.{now}
+use Rattle.mesh_records.proofs.EdgesGone.{no_corner_left}
 use Rattle.mesh_core.proofs.mesh.Mesh.kill_vert.Goals as goal
 
 pub remove_vert-requires-clause-there : goal.remove_vert-requires-clause-there

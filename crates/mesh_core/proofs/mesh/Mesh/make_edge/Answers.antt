@@ -5,14 +5,16 @@ use Rattle.raw_pool.specs.Slots.{IsLive}
 use Rattle.mesh_model.specs.Making.{with_edge}
 use Rattle.mesh_model.specs.Kernel.{edge_vals_like}
 use Rattle.mesh_model.specs.declared.names.EdgeName.{EdgeName}
-use Rattle.mesh_core.specs.Seen.{Seen, NameLists}
-use Rattle.mesh_core.specs.Changes.{with_last}
-use Rattle.mesh_core.specs.ReadOff.{now, disks, read_off, edge_at}
-use Rattle.mesh_core.specs.Puts.{row_like}
-use Rattle.mesh_core.proofs.Tables.{length_table}
-use Rattle.mesh_core.proofs.Elements.{name_live}
-use Rattle.mesh_core.proofs.Examples.{example_live, if_some_at, vert_of_name, edge_row_in}
-use Rattle.mesh_core.proofs.Edges.{AddsAnEdge, adds_an_edge, names_apart}
+use Rattle.mesh_core.specs.Seen.{Seen}
+use Rattle.mesh_records.specs.ReadOff.{NameLists}
+use Rattle.mesh_records.specs.Changes.{with_last}
+use Rattle.mesh_core.specs.Seen.{now, disks}
+use Rattle.mesh_records.specs.ReadOff.{read_off, edge_at}
+use Rattle.mesh_records.specs.Puts.{row_like}
+use Rattle.mesh_records.proofs.Tables.{length_table}
+use Rattle.mesh_records.proofs.Elements.{name_live}
+use Rattle.mesh_records.proofs.Examples.{example_live, if_some_at, vert_of_name, edge_row_in}
+use Rattle.mesh_records.proofs.Edges.{AddsAnEdge, adds_an_edge, names_apart}
 use Rattle.mesh_core.proofs.mesh.Mesh.make_edge.Goals as goal
 
 pub returns-in_err-make_room-clause-err : goal.returns-in_err-make_room-clause-err

@@ -4,11 +4,13 @@ use Rattle.mesh_model.specs.Complex.{Complex}
 use Rattle.mesh_model.specs.Making.{with_face}
 use Rattle.mesh_model.specs.Kernel.{corner_from, face_vals_like}
 use Rattle.mesh_model.specs.declared.names.FaceName.{FaceName}
-use Rattle.mesh_core.specs.Seen.{Seen, NameLists}
-use Rattle.mesh_core.specs.ReadOff.{now, disks, read_off, face_at}
-use Rattle.mesh_core.specs.Puts.{row_like}
-use Rattle.mesh_core.proofs.Tables.{length_table}
-use Rattle.mesh_core.proofs.Examples.{example_live, vert_of_name, edge_of_name, face_row_in}
+use Rattle.mesh_core.specs.Seen.{Seen}
+use Rattle.mesh_records.specs.ReadOff.{NameLists}
+use Rattle.mesh_core.specs.Seen.{now, disks}
+use Rattle.mesh_records.specs.ReadOff.{read_off, face_at}
+use Rattle.mesh_records.specs.Puts.{row_like}
+use Rattle.mesh_records.proofs.Tables.{length_table}
+use Rattle.mesh_records.proofs.Examples.{example_live, vert_of_name, edge_of_name, face_row_in}
 use Rattle.mesh_core.proofs.mesh.Mesh.make_face.Goals as goal
 
 pub returns-in_err-make_room-clause-err : goal.returns-in_err-make_room-clause-err

@@ -6,12 +6,14 @@ use Rattle.mesh_model.specs.Making.{with_vert}
 use Rattle.mesh_model.specs.Kernel.{vert_vals_like}
 use Rattle.mesh_model.specs.declared.names.EdgeName.{EdgeName}
 use Rattle.mesh_model.specs.declared.names.VertName.{VertName}
-use Rattle.mesh_core.specs.Seen.{Seen, NameLists}
-use Rattle.mesh_core.specs.ReadOff.{now, disks, read_off, vert_at, point_of}
-use Rattle.mesh_core.specs.Puts.{row_like}
-use Rattle.mesh_core.proofs.Tables.{length_table}
-use Rattle.mesh_core.proofs.Examples.{example_live, if_some_at, vert_row_in}
-use Rattle.mesh_core.proofs.Verts.{AddsAVert, adds_a_vert}
+use Rattle.mesh_core.specs.Seen.{Seen}
+use Rattle.mesh_records.specs.ReadOff.{NameLists}
+use Rattle.mesh_core.specs.Seen.{now, disks}
+use Rattle.mesh_records.specs.ReadOff.{read_off, vert_at, point_of}
+use Rattle.mesh_records.specs.Puts.{row_like}
+use Rattle.mesh_records.proofs.Tables.{length_table}
+use Rattle.mesh_records.proofs.Examples.{example_live, if_some_at, vert_row_in}
+use Rattle.mesh_records.proofs.Verts.{AddsAVert, adds_a_vert}
 use Rattle.mesh_core.proofs.mesh.Mesh.make_vert.Goals as goal
 
 pub returns-in_err-make_room-clause-err : goal.returns-in_err-make_room-clause-err

@@ -1,4 +1,4 @@
-use Rattle.mesh_core.proofs.Empty.{empty_whole}
+use Rattle.mesh_records.proofs.Empty.{empty_whole}
 use Rattle.mesh_core.proofs.mesh.Mesh.new.Goals as goal
 
 pub invariant_of-result : goal.invariant_of-result

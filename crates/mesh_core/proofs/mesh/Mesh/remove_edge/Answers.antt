@@ -1,13 +1,13 @@
 use Rattle.std.proofs.Common.{◌≡◌, true, sym, ap, ◌∙◌, subst}
 use Rattle.mesh_model.specs.Complex.{Complex}
 use Rattle.mesh_model.specs.Incidence.{is_loose}
-use Rattle.mesh_core.specs.Seen.{NameLists}
-use Rattle.mesh_core.specs.Changes.{only_without_edge, without_name}
-use Rattle.mesh_core.specs.ReadOff.{now, disks}
-use Rattle.mesh_core.proofs.Along.{loose_empty}
-use Rattle.mesh_core.proofs.Drops.{DropsAnEdge, drops_an_edge}
-use Rattle.mesh_core.proofs.Elements.{name_live}
-use Rattle.mesh_core.proofs.Examples.{edge_of_name}
+use Rattle.mesh_records.specs.ReadOff.{NameLists}
+use Rattle.mesh_records.specs.Changes.{only_without_edge, without_name}
+use Rattle.mesh_core.specs.Seen.{now, disks}
+use Rattle.mesh_records.proofs.Along.{loose_empty}
+use Rattle.mesh_records.proofs.Drops.{DropsAnEdge, drops_an_edge}
+use Rattle.mesh_records.proofs.Elements.{name_live}
+use Rattle.mesh_records.proofs.Examples.{edge_of_name}
 use Rattle.mesh_core.proofs.mesh.Mesh.remove_edge.Goals as goal
 
 pub slot_of_edge-edge-requires : goal.slot_of_edge-edge-requires

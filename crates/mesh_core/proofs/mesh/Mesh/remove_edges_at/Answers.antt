@@ -4,11 +4,11 @@ use Rattle.mesh_model.specs.Complex.{Complex}
 use Rattle.mesh_model.specs.Incidence.{has_end}
 use Rattle.mesh_model.specs.declared.names.EdgeName.{EdgeName}
 use Rattle.mesh_model.specs.declared.records.VertRec.{VertRec}
-use Rattle.mesh_core.specs.Changes.{without_name}
-use Rattle.mesh_core.specs.Gone.{EdgesGone, without_gone}
-use Rattle.mesh_core.specs.ReadOff.{now, disks}
-use Rattle.mesh_core.proofs.EdgesGone.{none_lost, one_lost, lists_none_gone, lists_one_lost, edges_lost, faces_lost, lists_lost}
-use Rattle.mesh_core.proofs.Gone.{fewer, passes_there}
+use Rattle.mesh_records.specs.Changes.{without_name}
+use Rattle.mesh_records.specs.Gone.{EdgesGone, without_gone}
+use Rattle.mesh_core.specs.Seen.{now, disks}
+use Rattle.mesh_records.proofs.EdgesGone.{none_lost, one_lost, lists_none_gone, lists_one_lost, edges_lost, faces_lost, lists_lost}
+use Rattle.mesh_records.proofs.Gone.{fewer, passes_there}
 use Rattle.mesh_core.proofs.mesh.Mesh.remove_edges_at.Goals as goal
 
 pub edge_at-requires : goal.edge_at-requires

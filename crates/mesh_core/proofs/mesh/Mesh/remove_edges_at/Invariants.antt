@@ -1,8 +1,9 @@
 use Rattle.std.proofs.Common.{◌≡◌}
 use Rattle.mesh_model.specs.Table.{live}
-use Rattle.mesh_core.specs.ReadOff.{now, disks}
-use Rattle.mesh_core.specs.Room.{room, UsesAtMost, none_of_all}
-use Rattle.mesh_core.specs.Gone.{EdgesGone, without_gone}
+use Rattle.mesh_core.specs.Seen.{now, disks}
+use Rattle.mesh_core.specs.Seen.{room}
+use Rattle.mesh_records.specs.Room.{UsesAtMost, none_of_all}
+use Rattle.mesh_records.specs.Gone.{EdgesGone, without_gone}
 use Rattle.mesh_core.proofs.mesh.Mesh.remove_edges_at.Given as goal
 
 abbrev pub invariant-loop-e : goal.invariant-loop-e

@@ -3,11 +3,11 @@ use Rattle.std.proofs.lemmas.Option.{same_Some}
 use Rattle.mesh_cycles.proofs.Completeness.{live_len}
 use Rattle.mesh_model.specs.Complex.{Complex}
 use Rattle.mesh_model.specs.Kernel.{without_face}
-use Rattle.mesh_core.specs.Seen.{NameLists}
-use Rattle.mesh_core.specs.ReadOff.{now, disks}
-use Rattle.mesh_core.proofs.Elements.{name_live}
-use Rattle.mesh_core.proofs.Examples.{face_of_name}
-use Rattle.mesh_core.proofs.Kills.{KillsFace, kills_face, corners_there}
+use Rattle.mesh_records.specs.ReadOff.{NameLists}
+use Rattle.mesh_core.specs.Seen.{now, disks}
+use Rattle.mesh_records.proofs.Elements.{name_live}
+use Rattle.mesh_records.proofs.Examples.{face_of_name}
+use Rattle.mesh_records.proofs.Kills.{KillsFace, kills_face, corners_there}
 use Rattle.mesh_core.proofs.mesh.Mesh.remove_face.Goals as goal
 
 pub slot_of_face-face-requires : goal.slot_of_face-face-requires

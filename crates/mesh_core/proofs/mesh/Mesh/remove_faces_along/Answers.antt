@@ -4,9 +4,9 @@ use Rattle.mesh_model.specs.Complex.{Complex}
 use Rattle.mesh_model.specs.declared.records.EdgeRec.{EdgeRec}
 use Rattle.mesh_model.specs.declared.records.FaceRec.{FaceRec}
 use Rattle.mesh_model.specs.Incidence.{uses_edge}
-use Rattle.mesh_core.specs.Gone.{SomeGone}
-use Rattle.mesh_core.specs.ReadOff.{now}
-use Rattle.mesh_core.proofs.Gone.{none_gone, one_gone, all_gone, none_passes, fewer, passes_there}
+use Rattle.mesh_records.specs.Gone.{SomeGone}
+use Rattle.mesh_core.specs.Seen.{now}
+use Rattle.mesh_records.proofs.Gone.{none_gone, one_gone, all_gone, none_passes, fewer, passes_there}
 use Rattle.mesh_core.proofs.mesh.Mesh.remove_faces_along.Goals as goal
 
 pub face_along-requires : goal.face_along-requires

@@ -1,9 +1,10 @@
 use Rattle.std.proofs.Common.{◌≡◌}
 use Rattle.mesh_model.specs.Table.{live}
-use Rattle.mesh_core.specs.ReadOff.{now, disks}
-use Rattle.mesh_core.specs.Room.{room, UsesAtMost, none_of_all}
+use Rattle.mesh_core.specs.Seen.{now, disks}
+use Rattle.mesh_core.specs.Seen.{room}
+use Rattle.mesh_records.specs.Room.{UsesAtMost, none_of_all}
 use Rattle.mesh_model.specs.Incidence.{uses_edge}
-use Rattle.mesh_core.specs.Gone.{SomeGone}
+use Rattle.mesh_records.specs.Gone.{SomeGone}
 use Rattle.mesh_core.proofs.mesh.Mesh.remove_faces_along.Given as goal
 
 abbrev pub invariant-loop-f : goal.invariant-loop-f

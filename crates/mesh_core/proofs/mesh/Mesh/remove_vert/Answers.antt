@@ -1,13 +1,13 @@
 use Rattle.std.proofs.Common.{◌≡◌, true, sym, ap, ◌∙◌, subst}
 use Rattle.mesh_model.specs.Complex.{Complex}
 use Rattle.mesh_model.specs.Incidence.{is_bare}
-use Rattle.mesh_core.specs.Seen.{NameLists}
-use Rattle.mesh_core.specs.Changes.{only_without_vert, has_no_corner}
-use Rattle.mesh_core.specs.ReadOff.{now, disks}
-use Rattle.mesh_core.proofs.AtVert.{bare_empty}
-use Rattle.mesh_core.proofs.DropsVert.{DropsAVert, drops_a_vert}
-use Rattle.mesh_core.proofs.Elements.{name_live}
-use Rattle.mesh_core.proofs.Examples.{vert_of_name}
+use Rattle.mesh_records.specs.ReadOff.{NameLists}
+use Rattle.mesh_records.specs.Changes.{only_without_vert, has_no_corner}
+use Rattle.mesh_core.specs.Seen.{now, disks}
+use Rattle.mesh_records.proofs.AtVert.{bare_empty}
+use Rattle.mesh_records.proofs.DropsVert.{DropsAVert, drops_a_vert}
+use Rattle.mesh_records.proofs.Elements.{name_live}
+use Rattle.mesh_records.proofs.Examples.{vert_of_name}
 use Rattle.mesh_core.proofs.mesh.Mesh.remove_vert.Goals as goal
 
 pub slot_of_vert-vert-requires : goal.slot_of_vert-vert-requires

@@ -1,6 +1,6 @@
 use Rattle.std.proofs.Common.{ap, ◌∙◌}
 use Rattle.mesh_core.specs.Seen.{Seen}
-use Rattle.mesh_core.specs.ReadOff.{now, disks}
+use Rattle.mesh_core.specs.Seen.{now, disks}
 use Rattle.mesh_core.proofs.mesh.Mesh.reserve.Goals as goal
 
 pub invariant_of-self : goal.invariant_of-self

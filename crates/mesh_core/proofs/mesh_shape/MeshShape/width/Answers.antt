@@ -1,0 +1,11 @@
+use Rattle.std.proofs.Common.{List, ap, ◌∙◌}
+use Rattle.cust_data.specs.Layers.{Layer, total}
+use Rattle.mesh_core.specs.Seen.{now}
+use Rattle.mesh_records.proofs.ReadBack.{kind_layers}
+use Rattle.mesh_core.proofs.mesh_shape.MeshShape.width.Goals as goal
+
+pub returns : goal.returns
+returns c = c.total.ensures ∙ ap (λ (ls : List Layer). total ls)
+    (kind_layers c.self.inside.store c.self.inside.next (record
+    { materials = c.self.inside.materials; libraries = c.self.inside.libraries }) (now c.args.self.now) c.args.kind
+    c.part_of.result (ap now c.self.view_is) c.part_of.ensures)

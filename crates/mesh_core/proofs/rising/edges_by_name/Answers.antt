@@ -1,0 +1,5 @@
+use Rattle.mesh_records.proofs.Order.{all_live}
+use Rattle.mesh_core.proofs.rising.edges_by_name.Goals as goal
+
+pub returns-clause-ready : goal.returns-clause-ready
+returns-clause-ready c = all_live c.edges_rising.ensures.named _ c.edges_rising.ensures.items
