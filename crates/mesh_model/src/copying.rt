@@ -66,8 +66,8 @@ pub(crate) fn layers_of<S: Shape>(
     Ok(LayerRows::of(alloc, set))
 }
 
-/// The names of materials.
-pub(crate) fn materials_of<S: Shape>(alloc: Global, shape: &S) -> Result<Sequence<Text>, NoMemory>
+/// The names of a shape's materials, in time and memory that grow with them.
+pub fn materials_of<S: Shape>(alloc: Global, shape: &S) -> Result<Sequence<Text>, NoMemory>
     ensures { IfOk result (λ names. names ≡ (S.complex shape.now).materials) }
 {
     let mut names = Sequence::new(alloc);
@@ -80,8 +80,8 @@ pub(crate) fn materials_of<S: Shape>(alloc: Global, shape: &S) -> Result<Sequenc
     Err(NoMemory)
 }
 
-/// The names of libraries.
-pub(crate) fn libraries_of<S: Shape>(alloc: Global, shape: &S) -> Result<Sequence<Text>, NoMemory>
+/// The names of a shape's libraries of materials, in time and memory that grow with them.
+pub fn libraries_of<S: Shape>(alloc: Global, shape: &S) -> Result<Sequence<Text>, NoMemory>
     ensures { IfOk result (λ names. names ≡ (S.complex shape.now).libraries) }
 {
     let mut names = Sequence::new(alloc);
@@ -132,8 +132,8 @@ fn push_vert<S: Shape>(verts: &mut VertColumns, shape: &S, gone: &NameSet, v: Ve
     }
 }
 
-// The values of a vertex.
-fn vert_row<S: Shape>(shape: &S, v: VertName) -> RowBuffer
+/// The row of values of a vertex. It takes no memory, and time that grows with the row.
+pub fn vert_row<S: Shape>(shape: &S, v: VertName) -> RowBuffer
     requires linked { IsLinked (S.complex shape.now) }
     requires there { IsThere (S.complex shape.now).verts v.0 }
     ensures { option_map (λ r. r.vals) (at (S.complex shape.now).verts v.0) ≡ Some result }
@@ -201,8 +201,8 @@ fn ends_left<S: Shape>(shape: &S, gone: &NameSet, e: EdgeName) -> Option<Ends>
     }
 }
 
-// The values of an edge.
-fn edge_row<S: Shape>(shape: &S, e: EdgeName) -> RowBuffer
+/// The row of values of an edge. It takes no memory, and time that grows with the row.
+pub fn edge_row<S: Shape>(shape: &S, e: EdgeName) -> RowBuffer
     requires linked { IsLinked (S.complex shape.now) }
     requires there { IsThere (S.complex shape.now).edges e.0 }
     ensures { option_map (λ r. r.vals) (at (S.complex shape.now).edges e.0) ≡ Some result }
@@ -302,8 +302,10 @@ fn push_face<S: Shape>(
     Ok(())
 }
 
-// The corners of a face and their values.
-fn read_corners<S: Shape>(
+/// Reads a face into two buffers, whose contents are replaced: the vertices and edges of its corners in order, and their
+/// rows of values one behind another. It takes memory only where a buffer has to grow. After `NoMemory` a buffer may have
+/// lost what it had.
+pub fn read_corners<S: Shape>(
     shape: &S,
     f: FaceName,
     sides: &mut Vec<(VertName, EdgeName)>,
@@ -368,8 +370,8 @@ fn push_corners<S: Shape>(
     }
 }
 
-// The values of a face.
-fn face_row<S: Shape>(shape: &S, f: FaceName) -> RowBuffer
+/// The row of values of a face. It takes no memory, and time that grows with the row.
+pub fn face_row<S: Shape>(shape: &S, f: FaceName) -> RowBuffer
     requires linked { IsLinked (S.complex shape.now) }
     requires there { IsThere (S.complex shape.now).faces f.0 }
     ensures { option_map (λ r. r.vals) (at (S.complex shape.now).faces f.0) ≡ Some result }

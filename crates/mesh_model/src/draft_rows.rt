@@ -14,9 +14,9 @@ use std::marker::Model;
 /// The most numbers that a row has: sixteen layers of four.
 pub(crate) const MAX_NUMBERS: usize = 64;
 
-/// The first numbers of a row.
+/// The first numbers of a row of values, at most 64, which are kept without memory.
 #[derive(Drop)]
-pub(crate) struct RowBuffer {
+pub struct RowBuffer {
     numbers: [i64; 64],
     count: usize,
 }
@@ -70,7 +70,7 @@ impl RowBuffer {
     }
 
     /// The numbers.
-    pub(crate) fn as_slice(&self) -> &[i64]
+    pub fn as_slice(&self) -> &[i64]
         ensures { result.now ≡ self.now }
     {
         &self.numbers[..self.count]

@@ -23,9 +23,11 @@ mod refusal;
 mod shape;
 mod vert_columns;
 
+pub use copying::{edge_row, face_row, libraries_of, materials_of, read_corners, vert_row};
 pub use cust_data::Rule;
 pub use draft::{Draft, DraftCorner};
 pub use draft_room::is_in_range;
+pub use draft_rows::RowBuffer;
 pub use layer_decl::LayerDecl;
 pub use names::{EdgeName, Elem, FaceName, Kind, VertName};
 pub use records::{CornerRec, Corners, Counters, EdgeRec, FaceRec, Point, Vals, VertRec};

@@ -1,6 +1,5 @@
 //! Elements of a draft, each made where what its call asks holds.
 ghost use Rattle.std.specs.Prelude.{◌≡◌, is_some};
-ghost use Rattle.std.specs.List.{list_all};
 ghost use Rattle.mesh_model.specs.Table.{at};
 ghost use Rattle.mesh_model.specs.Valid.{IsValid, IsSimple};
 
@@ -52,14 +51,6 @@ pub fn material(draft: &mut Draft, name: &[u8]) -> Result<i64, NoMemory>
     draft.material_number(name)
 }
 
-/// A library more, if it is new.
-pub fn library(draft: &mut Draft, name: &[u8]) -> Result<(), NoMemory>
-    ensures valid { IsValid draft.old → IsValid draft.new }
-    ensures simple { IsSimple draft.old → IsSimple draft.new }
-{
-    draft.add_library(name)
-}
-
 /// A face more, where it may stand.
 pub fn face(
     draft: &mut Draft,
@@ -81,13 +72,6 @@ pub fn face(
     }
     let name = draft.add_face(corners, material, smooth)?;
     Ok(Some(name))
-}
-
-/// Vertices are there.
-pub fn are_there(draft: &Draft, verts: &[VertName]) -> bool
-    ensures { result ≡ list_all (λ v. is_some (at draft.now.verts v.0)) verts.now }
-{
-    verts.iter().all(|v| is_there(draft, *v))
 }
 
 /// A corner.

@@ -6,6 +6,6 @@ mod elements;
 mod faces;
 mod shapes;
 
-pub use elements::{are_there, corner, edge, face, is_there, library, material, vert};
+pub use elements::{corner, edge, face, is_there, material, vert};
 pub use faces::{are_corners, are_values, has_room};
 pub use shapes::{grown_square, row_of_verts, square};
