@@ -1,2 +1,5 @@
 pub mod Places
 pub mod ValidCorners
+pub mod Loaded
+pub mod Layers
+pub mod Losing

@@ -15,8 +15,9 @@
 //! | `new`, `cycles_hold`, `reserve_notes` | constant |
 //! | iterators | constant to make; what an item costs is said at each |
 //! | reading a mesh as a shape | said there |
-//! | `snapshot` | the names and the corners |
+//! | `snapshot`, `load` | the names and the corners |
 //! | `find_edge` | the edges around the vertex that has fewer |
+//! | `can_lose_vert` | the names of faces and the corners |
 //! | `make_vert`, `make_edge` | constant, but for the room that is made |
 //! | `make_face` | its corners, and the room that is made |
 //! | `kill_face`, `kill_edge`, `kill_vert` | the edges and corners that go |
@@ -29,7 +30,9 @@
 
 mod around;
 mod changing;
+mod conditions;
 mod corners;
+mod loading;
 mod mesh;
 mod mesh_shape;
 mod rising;
@@ -38,6 +41,6 @@ pub use around::{EdgesAt, FacesAtEdge, FacesAtVert};
 pub use corners::{CornersAtEdge, CornersAtVert, CornersIn};
 pub use mesh::Mesh;
 pub use mesh_model::{
-    Draft, EdgeName, Elem, FaceName, Kind, NoMemory, Point, Rule, Shape, VertName,
+    Draft, EdgeName, Elem, FaceName, Kind, LayerDecl, NoMemory, Point, Rule, Shape, VertName,
 };
 pub use rising::{EdgesByName, FacesByName, VertsByName};

@@ -54,13 +54,13 @@ use std::marker::Model;
 /// around each vertex in order (`disks`), and how much can be added and noted without memory (`room`, `notes`).
 #[derive(Drop)]
 pub struct Mesh {
-    alloc: Global,
+    pub(crate) alloc: Global,
     pub(crate) store: Store,
     pub(crate) next: Counters,
     pub(crate) materials: Sequence<Text>,
     pub(crate) libraries: Sequence<Text>,
     // The complex to which there is a way back, whole.
-    base: Draft,
+    pub(crate) base: Draft,
 }
 
 impl Model for Mesh {

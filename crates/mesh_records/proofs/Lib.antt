@@ -47,6 +47,8 @@ pub mod Reordered
 pub mod CornerChanges
 pub mod Appended
 pub mod Turned
+pub mod Layered
+pub mod Skipped
 pub mod EndMoved
 pub mod EndSet
 pub mod LoopCounts

@@ -182,10 +182,10 @@ module _ (st : Stored) (v : Layers) where
       }
 
   -- the rule stays where the corners that are read are as many
-  pub whole_still : (n : Counters) → AreValuesFor st v → IsWhole st n
+  pub whole_still : (n : Counters) → HaveValues (with_values st v) → IsWhole st n
       → corner_sum (table (face_at (with_values st v)) n.faces) ≡ corner_sum (table (face_at st) n.faces)
       → IsWhole (with_values st v) n
-  whole_still n fit w sum =
+  whole_still n values w sum =
       let r = w.records in
       let z = w.sizes in
       let h = w.cycles in
@@ -204,7 +204,7 @@ module _ (st : Stored) (v : Layers) where
           };
           counted = h.counted;
         };
-        values = fit.values;
+        values = values;
         sizes = record {
           vert_limit = z.vert_limit;
           edge_limit = z.edge_limit;
@@ -223,13 +223,20 @@ module _ (st : Stored) (v : Layers) where
       }
 
   -- so is what is read of cycles, and the room
-  pub rewrites_values : (n : Counters) (change : Complex → Complex) → AreValuesFor st v → IsWhole st n
+  pub rewrites_with : (n : Counters) (change : Complex → Complex) → HaveValues (with_values st v) → IsWhole st n
       → corner_sum (table (face_at (with_values st v)) n.faces) ≡ corner_sum (table (face_at st) n.faces)
       → ((lists : NameLists) → read_off (with_values st v) n lists ≡ change (read_off st n lists))
       → Rewrites st (with_values st v) n change
-  rewrites_values n change fit w sum read = record {
-    whole = whole_still n fit w sum;
+  rewrites_with n change values w sum read = record {
+    whole = whole_still n values w sum;
     read = read;
     disks = table_same [] (disk_at st) (disk_at (with_values st v)) n.verts (λ k lt. disk_still k);
     room = record { verts = omega arith; edges = omega arith; corners = omega arith; faces = omega arith };
   }
+
+  -- the same where the layers are as before
+  pub rewrites_values : (n : Counters) (change : Complex → Complex) → AreValuesFor st v → IsWhole st n
+      → corner_sum (table (face_at (with_values st v)) n.faces) ≡ corner_sum (table (face_at st) n.faces)
+      → ((lists : NameLists) → read_off (with_values st v) n lists ≡ change (read_off st n lists))
+      → Rewrites st (with_values st v) n change
+  rewrites_values n change fit w sum read = rewrites_with n change fit.values w sum read

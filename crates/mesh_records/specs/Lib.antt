@@ -1,4 +1,5 @@
 pub mod Kinds
+pub mod Loading
 pub mod AtSlots
 pub mod ReadOff
 pub mod Room

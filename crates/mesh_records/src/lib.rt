@@ -16,6 +16,7 @@
 //! | `value_at` | the row of values |
 //! | `loop_at` | the position |
 //! | `set_end` | constant |
+//! | `append_row` | the row of values |
 //! | `insert_corner`, `reverse_face` | the corners |
 //! | `put_face`, `put_corners`, `take_loops`, `corners_into`, `rows_into` | the corners |
 //! | `make_room` | the room that is made |
@@ -23,6 +24,7 @@
 
 mod corners;
 pub mod laws;
+mod loading;
 mod moving;
 mod putting;
 mod readers;
@@ -31,6 +33,7 @@ mod slots;
 mod taking;
 
 pub use corners::{insert_corner, reverse_face};
+pub use loading::append_row;
 pub use moving::set_end;
 pub use putting::{put_corners, put_edge, put_face, put_vert};
 pub use readers::{

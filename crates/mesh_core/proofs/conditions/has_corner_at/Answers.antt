@@ -1,0 +1,55 @@
+use Rattle.std.proofs.Common.{◌≡◌, ◌==◌, rules, Bool, false, List, sym, ap, ◌∙◌}
+use Rattle.std.specs.List.{list_any}
+use Rattle.std.proofs.lemmas.Bool.{eq-eqb, eqb-true, false_from_ne_true}
+use Rattle.raw_pool.specs.declared.pool.Slot.{Slot}
+use Rattle.mesh_cycles.specs.Found.{loops_in}
+use Rattle.mesh_cycles.specs.Left.{loops_in_left}
+use Rattle.mesh_cycles.proofs.Mapped.{next_taken}
+use Rattle.mesh_model.specs.declared.names.VertName.{VertName}
+use Rattle.mesh_model.specs.declared.names.EdgeName.{EdgeName}
+use Rattle.mesh_records.specs.ReadOff.{corner_rec}
+use Rattle.mesh_records.proofs.Elements.{loop_is_at}
+use Rattle.mesh_records.proofs.Walks.{next_live}
+use Rattle.mesh_core.proofs.Losing.{any_here, any_ahead, at_vert}
+use Rattle.mesh_core.proofs.conditions.has_corner_at.Goals as goal
+
+pub loop-l-init : goal.loop-l-init
+loop-l-init c =
+    let all = ap loops_in_left c.into_iter-l-iterator.ensures.into_iter_gives
+    ∙ c.corners_of_face-l-items.ensures.items in
+    record {
+      ready = search rules;
+      seen = all;
+      ahead = sym (ap (list_any (at_vert c.args.st.now c.args.v)) all);
+    }
+
+pub corner_at-requires-clause-live : goal.corner_at-requires-clause-live
+corner_at-requires-clause-live c = loop_is_at c.args.st.now c.in-Some.l.0 (next_live c.args.st.now c.requires.cycles
+    c.args.f.0 c.loop-l.yielded (loops_in_left c.loop-l.l-iterator) (loops_in_left c.next.new.self) c.in-Some.l
+    c.loop-l.invariant.seen c.in-Some.ensures.steps)
+
+pub loop-l-preserved : goal.loop-l-preserved
+loop-l-preserved c =
+    let st = c.args.st.now in
+    let inv = c.loop-l.invariant in
+    let name = ap (λ (p : VertName × EdgeName). p.0.0) c.corner_at.ensures in
+    let off = false_from_ne_true ((corner_rec st c.in-Some.l).vert.0 == c.args.v.0)
+    (λ q. c.if-corner_at-v.false (name ∙ eqb-true (corner_rec st c.in-Some.l).vert.0 c.args.v.0 q)) in
+    record {
+      ready = c.in-Some.ensures.goes.keeps;
+      seen = next_taken (loops_in st c.args.f.0) c.loop-l.yielded (loops_in_left c.loop-l.l-iterator)
+          (loops_in_left c.next.new.self) c.in-Some.l inv.seen c.in-Some.ensures.steps;
+      ahead = inv.ahead ∙ any_ahead (at_vert st c.args.v) (loops_in_left c.loop-l.l-iterator)
+          (loops_in_left c.next.new.self) c.in-Some.l c.in-Some.ensures.steps off;
+    }
+
+pub returns-then-corner_at-v : goal.returns-then-corner_at-v
+returns-then-corner_at-v c =
+    let st = c.args.st.now in
+    let name = ap (λ (p : VertName × EdgeName). p.0.0) c.corner_at.ensures in
+    let on = eq-eqb (corner_rec st c.in-Some.l).vert.0 c.args.v.0 (sym name ∙ c.if-corner_at-v.true) in
+    sym (c.loop-l.invariant.ahead ∙ any_here (at_vert st c.args.v) (loops_in_left c.loop-l.l-iterator)
+    (loops_in_left c.next.new.self) c.in-Some.l c.in-Some.ensures.steps on)
+
+pub returns : goal.returns
+returns c = sym (c.loop-l.invariant.ahead ∙ ap (list_any (at_vert c.args.st.now c.args.v)) c.in-None.ensures.steps.0)

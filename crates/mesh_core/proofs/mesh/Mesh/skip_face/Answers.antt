@@ -1,0 +1,27 @@
+use Rattle.std.proofs.Common.{◌+◌, None, ap, ◌∙◌, arith}
+use Rattle.mesh_model.specs.Complex.{Complex}
+use Rattle.mesh_core.specs.Seen.{Seen, now}
+use Rattle.mesh_records.specs.Loading.{with_face_name}
+use Rattle.mesh_records.specs.ReadOff.{NameLists, face_at}
+use Rattle.mesh_records.proofs.Skipped.{Skips, skips_face}
+use Rattle.mesh_records.proofs.Tables.{length_table}
+use Rattle.mesh_core.proofs.mesh.Mesh.skip_face.Goals as goal
+
+passed : (c : goal.After-self-1) → Skips c.make_room.new.st c.self.inside.next
+    (record c.self.inside.next { faces = c.self.inside.next.faces + 1 }) (λ (x : Complex). with_face_name x None)
+passed c =
+    let long = length_table (face_at c.args.self.now.stored) c.args.self.now.next.faces in
+    let same = ap (λ (m : Seen). m.next.faces) c.self.view_is in
+    let limit = c.requires in
+    let room = c.in_ok-make_room.ensures.ok in
+    skips_face c.make_room.new.st c.self.inside.next c.make_room.ensures.stays.whole (omega arith)
+    (let r = room.face_names in omega arith)
+
+pub invariant_of-self-2 : goal.invariant_of-self-2
+invariant_of-self-2 c = (passed c).whole
+
+pub returns : goal.returns
+returns c =
+    let lists : NameLists = record { materials = c.self.inside.materials; libraries = c.self.inside.libraries } in
+    (passed c).read lists
+    ∙ ap (λ (x : Complex). with_face_name x None) (c.make_room.ensures.stays.read lists ∙ ap now c.self.view_is)
