@@ -6,7 +6,7 @@ use Rattle.std.proofs.lemmas.List.{append-nil}
 use Rattle.mesh_model.specs.Complex.{Complex}
 use Rattle.mesh_session.specs.State.{State, fresh_state}
 use Rattle.byte_sink.specs.Wrote.{with_after}
-use Rattle.obj_text.specs.declared.obj_fault.ObjRefusal.{ObjRefusal}
+use Rattle.obj_format.specs.declared.obj_fault.ObjRefusal.{ObjRefusal}
 use Rattle.script_text.specs.declared.script.Script.{Script}
 use Rattle.script_text.specs.declared.fault.ScriptRefusal.{ScriptRefusal}
 use Rattle.worlds.specs.Told.{Told}

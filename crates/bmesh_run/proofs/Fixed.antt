@@ -20,7 +20,7 @@ use Rattle.mesh_session.specs.State.{State, first_state}
 use Rattle.mesh_session.specs.Steps.{binding_of, is_new, with_result, step_by, step, steps}
 use Rattle.mesh_session.specs.declared.reply.Reply.{Reply}
 use Rattle.mesh_session.specs.declared.reply.Reply.TheVariants.{Refused}
-use Rattle.obj_text.specs.Whole.{BeginsFixed}
+use Rattle.obj_format.specs.Fixed.{BeginsFixed}
 
 fixed_delete : (s : State) (bind : Slots → Option Binding) (named : Result Elements Refusal)
     → BeginsFixed s.now → BeginsFixed (with_result s bind (delete_result s.now named)).1.now

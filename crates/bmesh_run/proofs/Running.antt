@@ -12,7 +12,7 @@ use Rattle.byte_sink.specs.Wrote.{with_after}
 use Rattle.worlds.specs.Files.{Files, put}
 use Rattle.worlds.specs.Told.{Told}
 use Rattle.mesh_model.specs.Complex.{Complex}
-use Rattle.obj_text.specs.declared.obj_fault.ObjRefusal.{ObjRefusal}
+use Rattle.obj_format.specs.declared.obj_fault.ObjRefusal.{ObjRefusal}
 use Rattle.script_text.specs.declared.script.Script.{Script}
 use Rattle.script_text.specs.declared.fault.ScriptRefusal.{ScriptRefusal}
 use Rattle.bmesh_run.specs.Job.{Job, job_of, out_of}

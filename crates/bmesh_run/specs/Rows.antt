@@ -7,7 +7,7 @@ use Rattle.mesh_model.specs.Making.{with_vert, vert_at_point}
 use Rattle.mesh_model.specs.Models.{square, vert}
 use Rattle.mesh_session.specs.State.{first_state}
 use Rattle.mesh_session.specs.Rows.{state_after}
-use Rattle.obj_text.specs.declared.obj_fault.ObjWhy.TheVariants as obj_why
+use Rattle.obj_format.specs.declared.obj_fault.ObjWhy.TheVariants as obj_why
 use Rattle.script_text.specs.declared.fault.ScriptWhy.TheVariants as script_why
 use Rattle.worlds.specs.Files.{Files}
 use Rattle.bmesh_run.specs.Job.{Job, job_of, is_grid, is_tour, model_starts, script_starts, out_starts}

@@ -9,11 +9,11 @@ use Rattle.op_slots.specs.declared.command.Command.{Command}
 use Rattle.mesh_session.specs.State.{State, fresh_state, first_state}
 use Rattle.mesh_session.specs.Steps.{steps}
 use Rattle.mesh_session.specs.declared.reply.Reply.{Reply}
-use Rattle.obj_text.specs.Obj.{read_text}
-use Rattle.obj_text.specs.Whole.{text}
-use Rattle.obj_text.specs.Words as obj
-use Rattle.obj_text.specs.declared.obj_fault.ObjRefusal.{ObjRefusal}
-use Rattle.obj_text.specs.declared.obj_fault.ObjWhy.TheVariants as obj_why
+use Rattle.obj_reader.specs.Obj.{read_text}
+use Rattle.obj_writer.specs.Whole.{text}
+use Rattle.obj_format.specs.Words as obj
+use Rattle.obj_format.specs.declared.obj_fault.ObjRefusal.{ObjRefusal}
+use Rattle.obj_format.specs.declared.obj_fault.ObjWhy.TheVariants as obj_why
 use Rattle.script_text.specs.Script.{script_of}
 use Rattle.script_text.specs.Words as script
 use Rattle.script_text.specs.declared.script.Script.{Script}

@@ -6,7 +6,7 @@ ghost use Rattle.std.specs.List.{list_any};
 ghost use Rattle.mesh_model.specs.Valid.{IsSound};
 ghost use Rattle.mesh_session.specs.State.{fresh_state, IsSoundState};
 ghost use Rattle.byte_sink.specs.Wrote.{with_after};
-ghost use Rattle.obj_text.specs.Whole.{BeginsFixed};
+ghost use Rattle.obj_format.specs.Fixed.{BeginsFixed};
 ghost use Rattle.bmesh_run.specs.Job.{out_starts};
 ghost use Rattle.bmesh_run.specs.Run.{model_line, script_line, usage_line, replies_outcome, commands_outcome};
 ghost use Rattle.bmesh_run.specs.Report.{report, is_refused};

@@ -1,7 +1,7 @@
 //! A text read in two pieces, and what came of it as plain numbers.
 ghost use Rattle.std.specs.Prelude.{◌≤◌, IfOk};
 ghost use Rattle.mesh_model.specs.Valid.{IsSound};
-ghost use Rattle.obj_text.specs.Whole.{BeginsFixed};
+ghost use Rattle.obj_format.specs.Fixed.{BeginsFixed};
 
 use mesh_model::{Draft, NoMemory, Shape};
 use obj_text::{ObjFault, ObjRefusal, Reader};

@@ -7,18 +7,18 @@ use Rattle.std.proofs.lemmas.List.{length-map}
 use Rattle.text_words.specs.Outcome.{◌>>=◌, steps}
 use Rattle.mesh_model.specs.Making.{with_vert, vert_at_point, with_face_told, edges_along}
 use Rattle.mesh_model.specs.declared.records.Point.{Point}
-use Rattle.obj_text.specs.declared.obj_fault.ObjWhy.{ObjWhy}
-use Rattle.obj_text.specs.declared.obj_fault.ObjWhy.TheVariants.{TooLarge}
-use Rattle.obj_text.specs.declared.obj_fault.ObjRefusal.{ObjRefusal}
-use Rattle.obj_text.specs.declared.reading.parts.Corner.{Corner}
-use Rattle.obj_text.specs.declared.reading.parts.TheConstants.{MAX_TEXTURES}
-use Rattle.obj_text.specs.Lines.{joined}
+use Rattle.obj_format.specs.declared.obj_fault.ObjWhy.{ObjWhy}
+use Rattle.obj_format.specs.declared.obj_fault.ObjWhy.TheVariants.{TooLarge}
+use Rattle.obj_format.specs.declared.obj_fault.ObjRefusal.{ObjRefusal}
+use Rattle.obj_format.specs.declared.indices.Corner.{Corner}
+use Rattle.obj_reader.specs.declared.parts.TheConstants.{MAX_TEXTURES}
+use Rattle.obj_format.specs.Lines.{joined}
 use Rattle.obj_text.specs.Limits.{LargeRefused, VertsRefused, TexturesRefused, FacesRefused, CornersRefused}
 use Rattle.obj_text.specs.Limits.{EdgesRefused}
-use Rattle.obj_text.specs.Obj.{nothing, line_read, model_of}
-use Rattle.obj_text.specs.Statements.{limited, told}
-use Rattle.obj_text.specs.Values.{vert_of}
-use Rattle.obj_text.proofs.FitLemmas.{vert_full, faces_full, corners_full, edges_over, limited_over}
+use Rattle.obj_reader.specs.Obj.{nothing, line_read, model_of}
+use Rattle.obj_reader.specs.Statements.{limited, told}
+use Rattle.obj_reader.specs.Values.{vert_of}
+use Rattle.obj_reader.proofs.FitLemmas.{vert_full, faces_full, corners_full, edges_over, limited_over}
 
 pub large_refused : LargeRefused
 large_refused scale text long =

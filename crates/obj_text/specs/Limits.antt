@@ -5,15 +5,15 @@ use Rattle.mesh_model.specs.Complex.{corner_sum}
 use Rattle.mesh_model.specs.Making.{edges_along}
 use Rattle.mesh_model.specs.declared.limits.TheConstants.{MAX_VERTS, MAX_EDGES, MAX_FACES, MAX_CORNERS}
 use Rattle.mesh_model.specs.declared.records.Point.{Point}
-use Rattle.obj_text.specs.declared.obj_fault.ObjWhy.TheVariants.{TooLong, TooMany, TooLarge}
-use Rattle.obj_text.specs.declared.reading.parts.Corner.{Corner}
-use Rattle.obj_text.specs.declared.reading.parts.Parts.{Parts}
-use Rattle.obj_text.specs.declared.reading.parts.TheConstants.{MAX_TEXTURES}
-use Rattle.obj_text.specs.declared.reading.values.Uv.{Uv}
-use Rattle.obj_text.specs.Obj.{read_text}
+use Rattle.obj_format.specs.declared.obj_fault.ObjWhy.TheVariants.{TooLong, TooMany, TooLarge}
+use Rattle.obj_format.specs.declared.indices.Corner.{Corner}
+use Rattle.obj_reader.specs.declared.parts.Parts.{Parts}
+use Rattle.obj_reader.specs.declared.parts.TheConstants.{MAX_TEXTURES}
+use Rattle.obj_format.specs.declared.texture.Uv.{Uv}
+use Rattle.obj_reader.specs.Obj.{read_text}
 use Rattle.obj_text.specs.Rows.{few}
-use Rattle.obj_text.specs.Statements.{counts, with_point, with_texture, with_ring, with_wire}
-use Rattle.obj_text.specs.Values.{point_of, texture_of, ring_of, wire_of, vert_of}
+use Rattle.obj_reader.specs.Statements.{counts, with_point, with_texture, with_ring, with_wire}
+use Rattle.obj_reader.specs.Values.{point_of, texture_of, ring_of, wire_of, vert_of}
 
 -- a text of more than 268,435,456 bytes, whatever stands in it
 abbrev pub LargeRefused : Type 0

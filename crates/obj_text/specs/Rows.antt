@@ -10,20 +10,20 @@ use Rattle.mesh_model.specs.declared.records.VertRec.{VertRec}
 use Rattle.mesh_model.specs.declared.records.FaceRec.{FaceRec}
 use Rattle.mesh_model.specs.declared.records.CornerRec.{CornerRec}
 use Rattle.text_words.specs.Outcome.{◌>>=◌}
-use Rattle.obj_text.specs.Lines.{joined}
-use Rattle.obj_text.specs.Numbers.{number}
-use Rattle.obj_text.specs.Indices.{index, corner}
-use Rattle.obj_text.specs.Names.{name_in}
-use Rattle.obj_text.specs.Obj.{read_text}
-use Rattle.obj_text.specs.Written.{grid_number}
-use Rattle.obj_text.specs.Whole.{text}
-use Rattle.obj_text.specs.declared.obj_fault.ObjRefusal.{ObjRefusal}
-use Rattle.obj_text.specs.declared.obj_fault.ObjWhy.{ObjWhy}
-use Rattle.obj_text.specs.declared.obj_fault.ObjWhy.TheVariants.{BadNumber, OffGrid, OutOfGrid, BadIndex, TooShort}
-use Rattle.obj_text.specs.declared.obj_fault.ObjWhy.TheVariants.{Repeated, UnknownWord, FreeForm, NotText}
-use Rattle.obj_text.specs.declared.reading.indices.Counts.{Counts}
-use Rattle.obj_text.specs.declared.reading.lines.Line.{Line}
-use Rattle.obj_text.specs.declared.reading.parts.Corner.{Corner}
+use Rattle.obj_format.specs.Lines.{joined}
+use Rattle.obj_format.specs.Numbers.{number}
+use Rattle.obj_format.specs.Indices.{index, corner}
+use Rattle.obj_format.specs.Names.{name_in}
+use Rattle.obj_reader.specs.Obj.{read_text}
+use Rattle.obj_writer.specs.Written.{grid_number}
+use Rattle.obj_writer.specs.Whole.{text}
+use Rattle.obj_format.specs.declared.obj_fault.ObjRefusal.{ObjRefusal}
+use Rattle.obj_format.specs.declared.obj_fault.ObjWhy.{ObjWhy}
+use Rattle.obj_format.specs.declared.obj_fault.ObjWhy.TheVariants.{BadNumber, OffGrid, OutOfGrid, BadIndex, TooShort}
+use Rattle.obj_format.specs.declared.obj_fault.ObjWhy.TheVariants.{Repeated, UnknownWord, FreeForm, NotText}
+use Rattle.obj_format.specs.declared.indices.Counts.{Counts}
+use Rattle.obj_format.specs.declared.lines.Line.{Line}
+use Rattle.obj_format.specs.declared.indices.Corner.{Corner}
 
 -- a vertex at three coordinates, without values
 abbrev pub point : ℤ → ℤ → ℤ → VertRec

@@ -1,9 +1,14 @@
 -- Whole texts, written by hand.
-use Rattle.std.specs.Prelude.{◌≡◌, ℕ, List, ◌++◌, codes, Result, Ok}
+use Rattle.std.specs.Prelude.{◌≡◌, ℕ, ℤ, pos, true, false, List, [], ◌∷◌, ◌++◌, codes, Option, Some, None, Result, Ok}
 use Rattle.text_words.specs.Outcome.{◌>>=◌}
-use Rattle.obj_text.specs.declared.obj_fault.ObjRefusal.{ObjRefusal}
-use Rattle.obj_text.specs.Obj.{read_text}
-use Rattle.obj_text.specs.Whole.{text}
+use Rattle.mesh_model.specs.Deleting.{without_verts}
+use Rattle.mesh_model.specs.Models.{vert, square}
+use Rattle.mesh_model.specs.declared.records.Point.{Point}
+use Rattle.obj_format.specs.declared.obj_fault.ObjRefusal.{ObjRefusal}
+use Rattle.obj_format.specs.declared.texture.Uv.{Uv}
+use Rattle.obj_text.specs.Returned.{Shown, points, faces_shown, has_edge}
+use Rattle.obj_reader.specs.Obj.{read_text}
+use Rattle.obj_writer.specs.Whole.{text}
 
 -- what is written of the complex that a text makes
 abbrev pub written_again : ℕ → List ℕ → Result (List ℕ) ObjRefusal
@@ -70,3 +75,30 @@ cube_written =
 -- the cube loses its comment, its object, its normals and a smoothing group that was there from the beginning
 abbrev pub CubeWritten : Type 0
 CubeWritten = written_again 6 cube_given ≡ Ok cube_written
+
+-- ---- WHAT A TEXT KEEPS
+
+-- a point
+abbrev pub at : ℕ → ℕ → ℕ → Point
+at x y z = record { x = pos x; y = pos y; z = pos z }
+
+-- the square without its first vertex: three points, of which the first and the last aren't joined
+abbrev pub CutSquareShown : Type 0
+CutSquareShown =
+    let cut = without_verts square (vert 0 ∷ []) in
+    (points cut ≡ at 4 0 0 ∷ at 4 4 0 ∷ at 0 4 0 ∷ [])
+    × (has_edge cut 0 1 ≡ true) × (has_edge cut 2 1 ≡ true) × (has_edge cut 0 2 ≡ false) × (has_edge cut 0 3 ≡ false)
+
+-- a face: the corners at ranks, each at one of the two places, its material and its smoothing group
+abbrev pub shown : List (ℕ × Uv) → Option (List ℕ) → ℤ → Shown
+shown corners material smooth = record { corners = corners; material = material; smooth = smooth }
+
+-- the faces of the sample
+abbrev pub SampleShown : Type 0
+SampleShown =
+    let p : Uv = record { u = pos 250000; v = pos 500000 } in
+    let q : Uv = record { u = pos 0; v = pos 0 } in
+    (read_text 0 sample >>= (λ c. Ok (faces_shown c)))
+    ≡ Ok (shown ((0, p) ∷ (1, q) ∷ (2, q) ∷ []) (Some (codes "red")) (pos 3)
+    ∷ shown ((0, q) ∷ (2, p) ∷ (3, q) ∷ []) (Some (codes "blue")) (pos 0)
+    ∷ shown ((0, q) ∷ (1, q) ∷ (2, q) ∷ (3, p) ∷ []) None (pos 0) ∷ [])

@@ -3,8 +3,9 @@
 
 ghost use Rattle.obj_text.specs.Limits.{LargeRefused, LongRefused, VertsRefused, TexturesRefused, FacesRefused};
 ghost use Rattle.obj_text.specs.Limits.{CornersRefused, EdgesRefused};
-ghost use Rattle.obj_text.specs.Progress.{StepsRead};
-ghost use Rattle.obj_text.specs.WholeRows.{SampleWritten, PlacesWritten, CubeWritten};
+ghost use Rattle.obj_reader.specs.Progress.{StepsRead};
+ghost use Rattle.obj_text.specs.Returned.{ReadWritten, NamesGiven};
+ghost use Rattle.obj_text.specs.WholeRows.{SampleWritten, PlacesWritten, CubeWritten, CutSquareShown, SampleShown};
 ghost use Rattle.obj_text.specs.Rows.{LinesJoined, CommentsStand, NumbersRead, NumbersMalformed, NumbersOffGrid};
 ghost use Rattle.obj_text.specs.Rows.{IndicesRead, IndicesBad, CornersRead, CornersBad, NamesRead, SquareRead};
 ghost use Rattle.obj_text.specs.Rows.{ShortRead, SkippedRead, ChainRead, BlanksRead, TexturesRead, FacesSet, FormsRead};
@@ -14,6 +15,20 @@ ghost use Rattle.obj_text.specs.Rows.{NumbersWritten};
 /// A text is what its physical lines make, one after another.
 pub fn steps()
     ensures { StepsRead }
+{}
+
+/// What is written of a valid and simple complex that begins with the fixed layers, at a scale, is read at the same
+/// scale as that complex with its vertices and faces renamed by rank: points, corners in order from the first, places in
+/// the texture, smoothing groups, the name of each face's material, the pairs of vertices that an edge joins, and the
+/// libraries are the same. The text has at most 268,435,456 bytes, materials and libraries have names that a line can
+/// give, and no library stands twice.
+pub fn read_written()
+    ensures { ReadWritten }
+{}
+
+/// The names of a text that was read are as `read_written` asks.
+pub fn names_given()
+    ensures { NamesGiven }
 {}
 
 /// Lines, joined or not.
@@ -73,6 +88,12 @@ pub fn whole()
     ensures sample { SampleWritten }
     ensures places { PlacesWritten }
     ensures cube { CubeWritten }
+{}
+
+/// What a text keeps of a complex, in small ones.
+pub fn shown()
+    ensures cut { CutSquareShown }
+    ensures sample { SampleShown }
 {}
 
 /// Texts as they are written.

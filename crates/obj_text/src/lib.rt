@@ -1,12 +1,9 @@
-//! Texts in the Wavefront OBJ format: reading and writing.
+//! Texts in the Wavefront OBJ format, read and written, and laws of both.
 #![tactic(auto)]
 
 pub mod laws;
-mod obj_fault;
-mod reading;
-mod writing;
 
 pub use byte_sink::{Sink, WriteFault, write_all};
-pub use obj_fault::{ObjFault, ObjRefusal, ObjWhy};
-pub use reading::reader::Reader;
-pub use writing::writer::{text_of, write};
+pub use obj_format::{ObjFault, ObjRefusal, ObjWhy};
+pub use obj_reader::Reader;
+pub use obj_writer::{text_of, write};

@@ -2,8 +2,8 @@
 
 ghost use Rattle.std.specs.Prelude.{◌≡◌, ◌≤◌, ℕ, true, false, Some, IfOk};
 ghost use Rattle.mesh_model.specs.Valid.{IsSound};
-ghost use Rattle.obj_text.specs.Obj.{read_text};
-ghost use Rattle.obj_text.specs.Whole.{BeginsFixed};
+ghost use Rattle.obj_reader.specs.Obj.{read_text};
+ghost use Rattle.obj_format.specs.Fixed.{BeginsFixed};
 ghost use Rattle.script_text.specs.Script.{script_of};
 ghost use Rattle.worlds.specs.Files.{Files};
 ghost use Rattle.bmesh_run.specs.Job.{is_grid, is_tour, model_starts, script_starts};

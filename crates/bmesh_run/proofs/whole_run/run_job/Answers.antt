@@ -1,6 +1,6 @@
 use Rattle.std.proofs.Common.{◌≡◌, true, ◌∙◌, sym, Ok, Err, Result}
 use Rattle.mesh_model.specs.Complex.{Complex}
-use Rattle.obj_text.specs.declared.obj_fault.ObjRefusal.{ObjRefusal}
+use Rattle.obj_format.specs.declared.obj_fault.ObjRefusal.{ObjRefusal}
 use Rattle.bmesh_run.specs.declared.stop.Stop.TheVariants as stop
 use Rattle.bmesh_run.specs.Job.{Job, is_grid, model_starts}
 use Rattle.bmesh_run.specs.Run.{model_of, model_most, model_line, grid_refusal}

@@ -1,4 +1,4 @@
-use Rattle.obj_text.proofs.ProgressLemmas.{steps_read}
+use Rattle.obj_reader.proofs.ProgressLemmas.{steps_read}
 use Rattle.obj_text.proofs.laws.steps.Goals as goal
 
 pub returns : goal.returns

@@ -1,7 +1,7 @@
 use Rattle.std.proofs.Common.{◌≡◌, ℕ, List, sym, ap, ◌∙◌, inr, Option, Some, take}
 use Rattle.std.specs.Option.{option_map}
 use Rattle.byte_sink.specs.Wrote.{with_after}
-use Rattle.obj_text.specs.Whole.{text}
+use Rattle.obj_writer.specs.Whole.{text}
 use Rattle.worlds.specs.Files.{put}
 use Rattle.worlds.specs.Told.{Told, with_start}
 use Rattle.worlds.specs.declared.start.Purpose.TheVariants.{Writing}

@@ -1,0 +1,14 @@
+pub mod WordLemmas
+pub mod MarkLemmas
+pub mod FitLemmas
+pub mod HoldingLemmas
+pub mod AlongLemmas
+pub mod FaceLemmas
+pub mod ToldLemmas
+pub mod ProgressLemmas
+pub mod RoomLemmas
+pub mod SettingLemmas
+pub mod FixedLemmas
+pub mod RuleSets
+pub mod CutLemmas
+pub mod IndexedLemmas

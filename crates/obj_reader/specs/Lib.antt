@@ -1,0 +1,7 @@
+pub mod Values
+pub mod Statements
+pub mod Holding
+pub mod Obj
+pub mod Progress
+pub mod Reading
+pub mod NameIndex
