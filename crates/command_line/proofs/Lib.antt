@@ -1,0 +1,5 @@
+pub mod Command
+pub mod Walks
+pub mod PlainLemmas
+pub mod Parsed
+pub mod Reading

@@ -1,0 +1,4 @@
+pub mod Job
+pub mod Found
+pub mod Plain
+pub mod Rows
