@@ -34,6 +34,7 @@ use Rattle.bmesh_run.proofs.Asking.{asks_all, asks_out, asks_job, asks_no_job, a
 use Rattle.bmesh_run.proofs.Asking.{prints_refused, due_model, due_script, due_early_model, due_early_script}
 use Rattle.bmesh_run.proofs.Asking.{ends_by_model, ends_by_script}
 use Rattle.bmesh_run.proofs.Completing.{completes}
+use Rattle.bmesh_run.proofs.Words.{never_usage}
 
 -- where an input was judged, what is left is what its file leaves
 abbrev pub LeavesJudged : {T R : Type 0} → Result T (Stop R) → ℕ → List Start → Files → Told → Told → Type 0
@@ -463,6 +464,7 @@ is_run_job words job status final old new is h usage = record {
   in_fault = h.in_fault;
   no_memory = λ out files told. rw is (h.no_memory out files told);
   usage = rw is usage;
+  plain = λ other spelled. never_usage words other status spelled (rw is usage);
   cause = h.cause;
   asked = asks_job (job_of words) job status final old new is h.by_status;
   due = λ files told. rw is (h.due files told);
@@ -489,6 +491,7 @@ is_run_usage words status old new is prints = elim prints [
         in_fault = λ no. cc;
         no_memory = λ no. cc;
         usage = rw is (inl refl);
+        plain = λ job spelled. never_usage words job Usage spelled (rw is (inl refl));
         cause = cause;
         asked = asks_no_job (job_of words) Usage fresh_state old new is by;
         due = λ files told. rw is (0, by.started);
@@ -511,6 +514,7 @@ is_run_usage words status old new is prints = elim prints [
           in_fault = λ no. cc;
           no_memory = λ no. cc;
           usage = rw is (inr (inl refl));
+          plain = λ job spelled. never_usage words job OutFault spelled (rw is (inr (inl refl)));
           cause = cause;
           asked = asks_no_job (job_of words) OutFault fresh_state old new is by;
           due = λ files told. rw is by;
@@ -532,6 +536,7 @@ is_run_usage words status old new is prints = elim prints [
           in_fault = λ no. cc;
           no_memory = λ no files told. rw is refl;
           usage = rw is (inr (inr refl));
+          plain = λ job spelled. never_usage words job NoMemory spelled (rw is (inr (inr refl)));
           cause = cause;
           asked = asks_no_job (job_of words) NoMemory fresh_state old new is by;
           due = λ files told. rw is by;
@@ -544,3 +549,20 @@ is_run_usage words status old new is prints = elim prints [
         })
   ]
 ]
+
+-- memory ran out before the words were read
+pub is_run_unread : (words : List (List ℕ)) (old : Told) → IsRun words NoMemory fresh_state old old
+is_run_unread words old = go (job_of words) refl
+  where
+    go : (read : Option Job) → job_of words ≡ read → IsRun words NoMemory fresh_state old old
+    go None is = is_run_usage words NoMemory old old is (inr (inr (refl, nothing_printed usage_line old, refl)))
+    go (Some job) is =
+        is_run_job words job NoMemory fresh_state old old is
+        (unread_model job old old (record {
+          judged = λ files told. tt;
+          only = refl;
+          asked = (0, sym (append-nil old.started));
+          left = λ files told. tt;
+          cause = record { input = refl; output = refl };
+        }))
+        ((λ no. cc), (λ grid. inr (inr refl)))

@@ -5,5 +5,7 @@ pub mod Stepping
 pub mod Running
 pub mod Completing
 pub mod Asking
+pub mod Words
 pub mod Levels
 pub mod Fixed
+pub mod Rows

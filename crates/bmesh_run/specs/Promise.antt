@@ -12,6 +12,7 @@ use Rattle.script_text.specs.declared.fault.ScriptRefusal.{ScriptRefusal}
 use Rattle.worlds.specs.Files.{Files, bytes_of}
 use Rattle.worlds.specs.Told.{Told}
 use Rattle.worlds.specs.declared.start.Start.{Start}
+use Rattle.command_line.specs.Plain.{Spells}
 use Rattle.bmesh_run.specs.Job.{Job, job_of, starts_of, out_of, model_starts, script_starts, out_starts}
 use Rattle.bmesh_run.specs.Run.{model_of, script_named, model_most, script_most, with_model, due_by_model, due, outcome}
 use Rattle.bmesh_run.specs.Whole.{AsksFor, PrintsPart}
@@ -129,6 +130,8 @@ pub record IsRun (words : List (List ℕ)) (status : Status) (final : State) (ol
   pub no_memory : status ≡ NoMemory → (files : Files) → old.files ≡ Some files → IsPartOfRun (job_of words) files final
   -- words that are not accepted, and only they, are answered by Usage
   pub usage : RefusesWords (job_of words) status
+  -- three plain words, and the option anywhere with a digit from 0 to 6, are never answered by Usage
+  pub plain : (job : Job) → Spells job words → status ≡ Usage → ⊥
   -- a fault comes only where its count rose in this run
   pub cause : Caused status old new
   -- of the files that the words name the first so many were asked for

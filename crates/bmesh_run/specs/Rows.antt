@@ -1,22 +1,27 @@
--- Command lines and whole runs over small files, worked out.
+-- Whole runs over small files, worked out.
 use Rattle.std.specs.Prelude.{◌≡◌, ℕ, pos, neg_ℤ, true, false, List, [], ◌∷◌, ◌++◌, codes}
 use Rattle.std.specs.declared.option.Option.TheVariants.{None, Some}
 use Rattle.mesh_model.specs.Complex.{new_model}
 use Rattle.mesh_model.specs.Deleting.{without_verts}
 use Rattle.mesh_model.specs.Making.{with_vert, vert_at_point}
 use Rattle.mesh_model.specs.Models.{square, vert}
+use Rattle.mesh_model.specs.declared.records.Point.{Point}
 use Rattle.mesh_session.specs.State.{first_state}
 use Rattle.mesh_session.specs.Rows.{state_after}
 use Rattle.obj_format.specs.declared.obj_fault.ObjWhy.TheVariants as obj_why
 use Rattle.script_text.specs.declared.fault.ScriptWhy.TheVariants as script_why
 use Rattle.worlds.specs.Files.{Files}
-use Rattle.bmesh_run.specs.Job.{Job, job_of, is_grid, is_tour, model_starts, script_starts, out_starts}
-use Rattle.bmesh_run.specs.Run.{refusal_outcome, outcome, due}
+use Rattle.bmesh_run.specs.Job.{Job, is_grid, is_tour, model_starts, script_starts, out_starts}
+use Rattle.bmesh_run.specs.Run.{Outcome, refusal_outcome, outcome, due}
 use Rattle.bmesh_run.specs.declared.status.Status.TheVariants.{Done, SomeRefused, Usage, ModelRefused, ScriptRefused}
 
--- the words of a command line on these three files
+-- the words of a command line on these three files at a scale
+abbrev pub words_at : List ℕ → List ℕ → List ℕ → List ℕ → List (List ℕ)
+words_at scale model script out = model ∷ script ∷ out ∷ codes "--scale" ∷ scale ∷ []
+
+-- the same at scale 0
 abbrev pub words : List ℕ → List ℕ → List ℕ → List (List ℕ)
-words model script out = model ∷ script ∷ out ∷ codes "--scale" ∷ codes "0" ∷ []
+words = words_at (codes "0")
 
 -- three file names, the scale and 0
 abbrev pub plain_words : List (List ℕ)
@@ -37,24 +42,6 @@ files model script = record { name = codes "model"; bytes = model } ∷ record {
 -- the text of the square
 abbrev pub square_text : List ℕ
 square_text = codes "v 0 0 0\nv 4 0 0\nv 4 4 0\nv 0 4 0\nf 1 2 3 4\n"
-
--- the five words are accepted, and a lone dash, an empty name or a dash before a name isn't
-abbrev pub NamesRead : Type 0
-NamesRead = (job_of plain_words ≡ Some plain_job)
-    × (job_of (words (codes "-") (codes "script") (codes "out")) ≡ None)
-    × (job_of (words [] (codes "script") (codes "out")) ≡ None)
-    × (job_of (words (codes "model") (codes "-script") (codes "out")) ≡ None)
-    × (job_of (words (codes "model") (codes "script") (codes "-out")) ≡ None)
-
--- neither are fewer or more words, another key, another number, or the option in front
-abbrev pub OtherWordsRefused : Type 0
-OtherWordsRefused = (job_of [] ≡ None)
-    × (job_of (codes "model" ∷ codes "script" ∷ codes "out" ∷ codes "--scale" ∷ []) ≡ None)
-    × (job_of (plain_words ++ codes "0" ∷ []) ≡ None)
-    × (job_of (codes "model" ∷ codes "script" ∷ codes "out" ∷ codes "--scales" ∷ codes "0" ∷ []) ≡ None)
-    × (job_of (codes "model" ∷ codes "script" ∷ codes "out" ∷ codes "--scale" ∷ codes "7" ∷ []) ≡ None)
-    × (job_of (codes "model" ∷ codes "script" ∷ codes "out" ∷ codes "--scale" ∷ codes "00" ∷ []) ≡ None)
-    × (job_of (codes "--scale" ∷ codes "0" ∷ codes "model" ∷ codes "script" ∷ codes "out" ∷ []) ≡ None)
 
 -- a corner is cut off the square
 abbrev pub SquareCut : Type 0
@@ -84,19 +71,29 @@ MissingVertex = outcome plain_words (files square_text (codes "delete geom=v9 co
   session = first_state square;
 }
 
+-- a model of one vertex, as it is read at a scale
+abbrev pub vertex_text : List ℕ
+vertex_text = codes "v 1.5 -2 .25\n"
+
+-- the run of the model of one vertex: its text and its point
+abbrev pub vertex_outcome : List ℕ → Point → Outcome
+vertex_outcome made point = record {
+  status = Done;
+  made = Some made;
+  printed = codes "end verts=1 edges=0 faces=0 corners=0 loose=0 refused=0 undo=0 redo=0\n";
+  session = first_state (with_vert new_model (vert_at_point new_model point));
+}
+
 -- at a scale of 2 the model is read in hundredths, and written so
 abbrev pub ScaleKept : Type 0
-ScaleKept = outcome (codes "model" ∷ codes "script" ∷ codes "out" ∷ codes "--scale" ∷ codes "2" ∷ [])
-    (files (codes "v 1.5 -2 .25\n") []) ≡ record {
-      status = Done;
-      made = Some (codes "v 1.50 -2.00 0.25\n");
-      printed = codes "end verts=1 edges=0 faces=0 corners=0 loose=0 refused=0 undo=0 redo=0\n";
-      session = first_state (with_vert new_model (vert_at_point new_model (record {
-        x = pos 150;
-        y = neg_ℤ (pos 200);
-        z = pos 25;
-      })));
-    }
+ScaleKept = outcome (words_at (codes "2") (codes "model") (codes "script") (codes "out")) (files vertex_text [])
+    ≡ vertex_outcome (codes "v 1.50 -2.00 0.25\n") (record { x = pos 150; y = neg_ℤ (pos 200); z = pos 25 })
+
+-- without the option it is read in millionths, and written so
+abbrev pub ScaleOfSix : Type 0
+ScaleOfSix = outcome (codes "model" ∷ codes "script" ∷ codes "out" ∷ []) (files vertex_text [])
+    ≡ vertex_outcome (codes "v 1.500000 -2.000000 0.250000\n")
+    (record { x = pos 1500000; y = neg_ℤ (pos 2000000); z = pos 250000 })
 
 -- a line at fault refuses the model, whatever the script, and then the script
 abbrev pub InputsRefused : Type 0
@@ -125,4 +122,4 @@ FilesDue = (due (Some plain_job) (files (codes "q\n") []) ≡ model_starts (code
     × (due (Some plain_job) (files [] (codes "undo")) ≡ model_starts (codes "model") ++ script_starts (codes "script"))
     × (due (Some plain_job) (files [] []) ≡ model_starts (codes "model") ++ script_starts (codes "script")
     ++ out_starts (codes "out"))
-    × (due (job_of []) (files [] []) ≡ [])
+    × (due None (files [] []) ≡ [])

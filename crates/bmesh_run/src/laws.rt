@@ -1,14 +1,12 @@
-//! Command lines and whole runs over small files, worked out. The checker proves each statement, and no
+//! Whole runs over small files, worked out. The checker proves each statement, and no
 //! call does anything.
 
-ghost use Rattle.bmesh_run.specs.Rows.{NamesRead, OtherWordsRefused, NamesOfFiles, SquareCut, NothingGiven};
-ghost use Rattle.bmesh_run.specs.Rows.{ScaleKept, MissingVertex, InputsRefused, WordsRefused, FilesDue};
+ghost use Rattle.bmesh_run.specs.Rows.{NamesOfFiles, SquareCut, NothingGiven, ScaleKept, ScaleOfSix};
+ghost use Rattle.bmesh_run.specs.Rows.{MissingVertex, InputsRefused, WordsRefused, FilesDue};
 
-/// The words of command lines.
-pub fn words()
-    ensures names { NamesRead }
-    ensures others { OtherWordsRefused }
-    ensures files { NamesOfFiles }
+/// Names that are no files.
+pub fn names()
+    ensures { NamesOfFiles }
 {}
 
 /// Whole runs that are delivered.
@@ -17,6 +15,7 @@ pub fn delivered()
     ensures nothing { NothingGiven }
     ensures missing { MissingVertex }
     ensures scale { ScaleKept }
+    ensures six { ScaleOfSix }
 {}
 
 /// Whole runs that are refused, and the files that are due.

@@ -2,7 +2,6 @@
 #![tactic(auto)]
 
 mod commands;
-mod job;
 pub mod laws;
 mod read;
 mod status;

@@ -16,12 +16,12 @@ ghost use Rattle.bmesh_run.specs.Ends.{IsOnTheWay, RefusesWords};
 ghost use Rattle.bmesh_run.specs.Promise.{PrintsRefusal, named, modelled, RunsAs, IsRun};
 
 use crate::commands::run_commands;
-use crate::job::{Job, job_of};
 use crate::read::inputs::{read_model, read_script};
 use crate::status::Status;
 use crate::stop::Stop;
 use crate::write::report::{report, some_refused};
 use crate::write::whole_file::{print_all, write_file};
+use command_line::{Job, JobFault, job_of};
 use mesh_model::Draft;
 use mesh_session::{Reply, Session};
 use obj_text::ObjRefusal;
@@ -36,9 +36,10 @@ const USAGE: &str = "usage: bmesh MODEL SCRIPT OUT [--scale N]\n";
 /// Runs a command line: reads the model and the script, gives the commands in order, writes the last
 /// complex and prints the report.
 ///
-/// `words` are those after the program's name, and the session is fresh. The words are judged first,
-/// then the model, and then the script: SCRIPT is opened only where the model is accepted, and OUT
-/// only where the script is. The report is printed once OUT is whole.
+/// `words` are those after the program's name, `MODEL SCRIPT OUT [--scale N]` as `command_line::job_of` reads
+/// them, and the session is fresh. The words are judged first, then the model, and then the script: SCRIPT is
+/// opened only where the model is accepted, and OUT only where the script is. The report is printed once OUT is
+/// whole.
 pub fn run<W: World>(
     alloc: Global,
     words: &[String],
@@ -48,9 +49,10 @@ pub fn run<W: World>(
     requires { session.old.state ≡ fresh_state }
     ensures { IsRun (map string_bytes words.now) result session.new.state (W.told world.old) (W.told world.new) }
 {
-    match job_of(words) {
-        Some(job) => run_job(alloc, job, session, world),
-        None => refuse_words(world),
+    match job_of(alloc, words) {
+        Ok(job) => run_job(alloc, job, session, world),
+        Err(JobFault::Refused) => refuse_words(world),
+        Err(JobFault::NoMemory) => Status::NoMemory,
     }
 }
 

@@ -47,12 +47,21 @@ fn run_words<W: World>(
 
 const WORDS: [&str; 5] = ["model", "script", "out", "--scale", "0"];
 
-// Whether a run at a scale, over a model that no command changes, writes this text.
-fn writes_at(alloc: Global, scale: &str, model: &str, made: &str) -> Result<bool, NoMemory> {
+// Whether a run by these words, over a model that no command changes, writes this text.
+fn writes_by(alloc: Global, words: &[&str], model: &str, made: &str) -> Result<bool, NoMemory> {
     let mut world = world_of(alloc, model, "")?;
-    let words = ["model", "script", "out", "--scale", scale];
-    let ended = run_words(alloc, &words, &mut world)?;
+    let ended = run_words(alloc, words, &mut world)?;
     Ok(ended == (0, 0) && is_made(&world, Some(made)))
+}
+
+// The same at a scale.
+fn writes_at(alloc: Global, scale: &str, model: &str, made: &str) -> Result<bool, NoMemory> {
+    writes_by(
+        alloc,
+        &["model", "script", "out", "--scale", scale],
+        model,
+        made,
+    )
 }
 
 #[test]
@@ -71,6 +80,21 @@ fn each_scale(rt: HostRuntime) -> Result<(), Fail> {
             "{scale}"
         );
     }
+    Ok(())
+}
+
+#[test]
+fn six_places_without_the_option(rt: HostRuntime) -> Result<(), Fail> {
+    let words = ["model", "script", "out"];
+    let made = "v 1.000000 -2.000000 0.000001\n";
+    assert!(rt; writes_by(rt.alloc(), &words, "v 1.0 -2 +.000001\n", made)?);
+    Ok(())
+}
+
+#[test]
+fn the_option_in_one_word(rt: HostRuntime) -> Result<(), Fail> {
+    let words = ["model", "--scale=2", "script", "out"];
+    assert!(rt; writes_by(rt.alloc(), &words, "v 1.0 -2 +.0\n", "v 1.00 -2.00 0.00\n")?);
     Ok(())
 }
 
@@ -174,16 +198,17 @@ const USAGE: &str = "usage: bmesh MODEL SCRIPT OUT [--scale N]\n";
 
 #[test]
 fn other_words_are_refused(rt: HostRuntime) -> Result<(), Fail> {
-    let cases: [&[&str]; 9] = [
+    let cases: [&[&str]; 10] = [
         &[],
         &["model", "script"],
-        &["model", "script", "out"],
+        &["model", "script", "out", "more"],
         &["model", "script", "out", "--scale"],
         &["model", "script", "out", "--scale", "7"],
-        &["model", "script", "out", "--scale", "00"],
+        &["model", "script", "out", "--scale", "x"],
         &["model", "script", "out", "--scales", "0"],
-        &["model", "script", "out", "--scale", "0", "0"],
-        &["--scale", "0", "model", "script", "out"],
+        &["--scale", "0", "model", "script", "out", "--scale", "0"],
+        &["--help"],
+        &["model", "script", "out", "-h"],
     ];
     for case in cases {
         assert!(rt; words_give(rt.alloc(), case, 2, USAGE)?);
@@ -192,18 +217,40 @@ fn other_words_are_refused(rt: HostRuntime) -> Result<(), Fail> {
 }
 
 #[test]
-fn other_names_are_refused(rt: HostRuntime) -> Result<(), Fail> {
+fn names_with_a_dash_are_refused(rt: HostRuntime) -> Result<(), Fail> {
     for (model, script, out) in [
-        ("", "script", "out"),
-        ("model", "", "out"),
-        ("model", "script", ""),
-        ("-", "script", "out"),
         ("-model", "script", "out"),
         ("model", "-script", "out"),
         ("model", "script", "-out"),
+        ("model", "script", "--out"),
     ] {
         let words = [model, script, out, "--scale", "0"];
         assert!(rt; words_give(rt.alloc(), &words, 2, USAGE)?);
+    }
+    Ok(())
+}
+
+// Whether a corner is cut off a square by these words.
+fn cuts_by(alloc: Global, words: &[&str]) -> Result<bool, NoMemory> {
+    let mut world = world_of(alloc, SQUARE, CUT)?;
+    let ended = run_words(alloc, words, &mut world)?;
+    Ok(ended == (0, 1) && is_made(&world, Some(CUT_SQUARE)))
+}
+
+#[test]
+fn the_option_anywhere(rt: HostRuntime) -> Result<(), Fail> {
+    let cases: [&[&str]; 8] = [
+        &["--scale", "0", "model", "script", "out"],
+        &["model", "--scale", "0", "script", "out"],
+        &["model", "script", "--scale", "0", "out"],
+        &["model", "script", "out", "--scale=0"],
+        &["--scale=+0", "model", "script", "out"],
+        &["model", "script", "out", "--scale", "00"],
+        &["--scale", "0", "--", "model", "script", "out"],
+        &["model", "--scale=0", "script", "--", "out"],
+    ];
+    for case in cases {
+        assert!(rt; cuts_by(rt.alloc(), case)?);
     }
     Ok(())
 }
@@ -238,6 +285,12 @@ fn cuts_named(alloc: Global, model: &str, script: &str) -> Result<bool, NoMemory
 #[test]
 fn names_nearly_like_those(rt: HostRuntime) -> Result<(), Fail> {
     assert!(rt; cuts_named(rt.alloc(), "@grid", "@tour2")?);
+    Ok(())
+}
+
+#[test]
+fn a_lone_dash_and_no_bytes_are_names(rt: HostRuntime) -> Result<(), Fail> {
+    assert!(rt; cuts_named(rt.alloc(), "-", "")?);
     Ok(())
 }
 
