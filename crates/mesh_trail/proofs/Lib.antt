@@ -15,3 +15,6 @@ pub mod Leading
 pub mod Differences
 pub mod Elements
 pub mod FaceNotes
+pub mod Noting
+pub mod NewNotes
+pub mod Wide

@@ -1,12 +1,13 @@
 //! The corners of noted faces, one face behind another.
 
 ghost use Rattle.std.specs.Prelude.{◌≡◌, ◌≤◌, ◌<◌, ◌+◌, ◌*◌, ◌++◌, ◌↔◌, [], OnOk, OnErr, IsOk, is_ok, if◌then◌else◌, Some, true, length, take, drop, map, slice_get};
-ghost use Rattle.std.specs.List.{flat_map};
+ghost use Rattle.std.specs.List.{All, flat_map};
 ghost use Rattle.std.specs.Vec.{vec_len, vec_capacity};
 ghost use Rattle.std.specs.Option.{option_map};
 ghost use Rattle.mesh_model.specs.Table.{at, IsThere};
 ghost use Rattle.mesh_model.specs.Complex.{corners_of, width as width_of};
 ghost use Rattle.mesh_model.specs.Valid.{IsLinked};
+ghost use Rattle.mesh_trail.specs.Wide.{IsCornerWide};
 
 use mesh_model::{EdgeName, FaceName, Kind, NoMemory, Shape, VertName};
 use std::alloc::Global;
@@ -79,6 +80,13 @@ impl CornerStore {
         self.value_buffer.resize(numbers, 0)?;
         self.pair_buffer.resize(count, (VertName(0), EdgeName(0)))?;
         Ok(())
+    }
+
+    // Does nothing. Each row is as wide as is said.
+    pub(crate) fn rows_fit(&self)
+        ensures { All (IsCornerWide self.now.width) self.now.corners }
+    {
+        let _ = &self.width;
     }
 
     // Makes room for so many further corners.
@@ -257,6 +265,23 @@ impl CornerStore {
         self.pairs[from + i]
     }
 
+    // Copies the vertices and edges of corners that stand behind one another.
+    pub(crate) fn copy_pairs(&self, from: usize, into: &mut [(VertName, EdgeName)])
+        requires { from + length into.old ≤ length self.now.corners }
+        ensures { into.new ≡ map (λ k. (k.vert, k.edge)) (take (length into.old) (drop from self.now.corners)) }
+    {
+        copy_part(&self.pairs, from, into);
+    }
+
+    // Copies the rows of corners that stand behind one another.
+    pub(crate) fn copy_rows(&self, from: usize, count: usize, into: &mut [i64])
+        requires within { from + count ≤ length self.now.corners }
+        requires room { length into.old ≡ count * self.now.width }
+        ensures { into.new ≡ flat_map (λ k. k.vals) (take count (drop from self.now.corners)) }
+    {
+        copy_part(&self.values, from * self.width, into);
+    }
+
     // A number of the row of a corner behind a place.
     pub(crate) fn value(&self, from: usize, i: usize, k: usize) -> i64
         requires there { from + i < length self.now.corners }
@@ -265,6 +290,15 @@ impl CornerStore {
     {
         self.values[(from + i) * self.width + k]
     }
+}
+
+// Copies as much as there is to be filled, from a place on.
+fn copy_part<T: Copy>(all: &[T], from: usize, into: &mut [T])
+    requires { from + length into.old ≤ length all.now }
+    ensures { into.new ≡ take (length into.old) (drop from all.now) }
+{
+    let end = from + into.len();
+    into.copy_from_slice(&all[from..end]);
 }
 
 // Reads the vertices and edges of a face's corners into the front of a buffer.

@@ -1,6 +1,8 @@
 //! The faces of a past.
 
-ghost use Rattle.std.specs.Prelude.{◌≡◌, ◌≤◌, ◌<◌, ◌+◌, OnOk, OnErr, IsOk, IfOk, IsSome, IfSome, Some, None, length, is_some, slice_get};
+ghost use Rattle.std.specs.Prelude.{◌≡◌, ◌≤◌, ◌<◌, ◌+◌, ◌*◌, OnOk, OnErr, IsOk, IfOk, IsSome, IfSome, Some, None};
+ghost use Rattle.std.specs.Prelude.{length, map, is_some, slice_get};
+ghost use Rattle.std.specs.List.{flat_map};
 ghost use Rattle.std.specs.FinMap.{get, insert, empty, len};
 ghost use Rattle.std.specs.List.Sorted.{IsNonDecreasingBy};
 ghost use Rattle.std.specs.Option.{option_map};
@@ -13,6 +15,7 @@ ghost use Rattle.std.specs.Vec.{vec_len, vec_capacity};
 ghost use Rattle.mesh_trail.specs.Noted.{noted, is_absent, map_notes};
 ghost use Rattle.mesh_trail.specs.Kept.{face_in, face_of, AreWithin, AreSpans, AreKeptSpans, IsTrimmed};
 ghost use Rattle.mesh_trail.specs.Tree.{IsLeast, IsTree, pairs, names_of};
+ghost use Rattle.mesh_trail.specs.Wide.{EachNoted, IsFaceWide};
 
 use crate::corners::CornerStore;
 use crate::note_map::{Entry, NoteMap, entry_at, settle};
@@ -365,6 +368,14 @@ impl FaceTable {
         self.spans.len()
     }
 
+    // Does nothing. Each noted row of a face or of a corner is as wide as is said.
+    pub(crate) fn rows_fit(&self)
+        ensures { EachNoted (IsFaceWide self.now.width self.now.corner_width) self.now.names }
+    {
+        self.spans.rows_fit();
+        self.corners.rows_fit();
+    }
+
     // The number of a noted face's corners.
     pub(crate) fn corner_count(&self, name: u32) -> u32
         requires { IsSome (noted self.now.names name) }
@@ -385,6 +396,28 @@ impl FaceTable {
         match self.spans.body(name) {
             Some(span) => self.corners.pair(span.from, i as usize),
             None => (VertName(0), EdgeName(0)),
+        }
+    }
+
+    // The vertices and edges of a noted face's corners in order.
+    pub(crate) fn corners(&self, name: u32, into: &mut [(VertName, EdgeName)])
+        requires there { IsSome (noted self.now.names name) }
+        requires room { length into.old ≡ length (corners_of (noted self.now.names name)) }
+        ensures { into.new ≡ map (λ k. (k.vert, k.edge)) (corners_of (noted self.now.names name)) }
+    {
+        if let Some(span) = self.spans.body(name) {
+            self.corners.copy_pairs(span.from, into);
+        }
+    }
+
+    // The rows of a noted face's corners in order, one behind another.
+    pub(crate) fn corner_rows(&self, name: u32, into: &mut [i64])
+        requires there { IsSome (noted self.now.names name) }
+        requires room { length into.old ≡ length (corners_of (noted self.now.names name)) * self.now.corner_width }
+        ensures { into.new ≡ flat_map (λ k. k.vals) (corners_of (noted self.now.names name)) }
+    {
+        if let Some(span) = self.spans.body(name) {
+            self.corners.copy_rows(span.from, span.count as usize, into);
         }
     }
 

@@ -1,6 +1,7 @@
 //! Pasts: what a mesh was before its changes, by which one leads back.
 #![tactic(auto)]
 
+mod between;
 mod corners;
 mod edges;
 mod faces;

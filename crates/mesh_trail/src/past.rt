@@ -1,4 +1,6 @@
-ghost use Rattle.std.specs.Prelude.{◌≡◌, ◌≤◌, ◌<◌, ◌+◌, ◌↔◌, true, [], ◌∷◌, OnOk, OnErr, IsOk, IfOk, IsSome, Some, length, is_some, slice_get};
+ghost use Rattle.std.specs.Prelude.{◌≡◌, ◌≤◌, ◌<◌, ◌+◌, ◌*◌, ◌↔◌, true, [], ◌∷◌, OnOk, OnErr, IsOk, IfOk, IsSome, Some};
+ghost use Rattle.std.specs.Prelude.{length, map, is_some, slice_get};
+ghost use Rattle.std.specs.List.{flat_map};
 ghost use Rattle.std.specs.FinMap.{get};
 ghost use Rattle.std.specs.Option.{option_map};
 ghost use Rattle.mesh_model.specs.Table.{at};
@@ -8,6 +10,7 @@ ghost use Rattle.mesh_model.specs.ChangeSetNotes.{with_first_note};
 ghost use Rattle.mesh_trail.specs.Pasts.{widths_of, no_changes, no_room, IsAtMost, number_of, count_of, is_noted, was_absent};
 ghost use Rattle.mesh_trail.specs.Noted.{noted};
 ghost use Rattle.mesh_trail.specs.Tree.{IsLeast};
+ghost use Rattle.mesh_trail.specs.Wide.{AreRowsWide};
 
 use crate::edges::{Ends, note_edge, trim_edges};
 use crate::faces::FaceTable;
@@ -283,6 +286,15 @@ impl Past {
         }
     }
 
+    /// Does nothing. Each row of values that is noted is as wide as the widths say.
+    pub fn rows_fit(&self)
+        ensures { AreRowsWide self.now }
+    {
+        self.verts.rows_fit();
+        self.edges.rows_fit();
+        self.faces.rows_fit();
+    }
+
     /// Whether an element has a note.
     pub fn has(&self, x: Elem) -> bool
         ensures { result ≡ is_noted self.now.changes x }
@@ -384,6 +396,26 @@ impl Past {
             ≡ Some result }
     {
         self.faces.corner(f.0, i)
+    }
+
+    /// The vertices and the edges of the corners that a face had in order, in one walk round it. The face has a note
+    /// with a record.
+    pub fn corners(&self, f: FaceName, into: &mut [(VertName, EdgeName)])
+        requires there { IsSome (noted self.now.changes.faces f.0) }
+        requires room { length into.old ≡ length (corners_of (noted self.now.changes.faces f.0)) }
+        ensures { into.new ≡ map (λ k. (k.vert, k.edge)) (corners_of (noted self.now.changes.faces f.0)) }
+    {
+        self.faces.corners(f.0, into);
+    }
+
+    /// The values of the corners that a face had in order, one row behind another, in one walk round it. The face has
+    /// a note with a record.
+    pub fn corner_rows(&self, f: FaceName, into: &mut [i64])
+        requires there { IsSome (noted self.now.changes.faces f.0) }
+        requires room { length into.old ≡ length (corners_of (noted self.now.changes.faces f.0)) * self.now.widths.corners }
+        ensures { into.new ≡ flat_map (λ k. k.vals) (corners_of (noted self.now.changes.faces f.0)) }
+    {
+        self.faces.corner_rows(f.0, into);
     }
 
     /// A number of the row of values that a vertex had.

@@ -6,6 +6,7 @@ ghost use Rattle.mesh_trail.specs.Noted.{noted, is_absent, map_notes};
 ghost use Rattle.mesh_trail.specs.Kept.{kept_row, AreWithin};
 ghost use Rattle.std.specs.Option.{option_map};
 ghost use Rattle.mesh_trail.specs.Tree.{IsLeast, IsTree, names_of};
+ghost use Rattle.mesh_trail.specs.Wide.{EachNoted, HasRow};
 
 use crate::note_map::{Entry, NoteMap, entry_at};
 use crate::rows::{NumberRow, Row, push_row};
@@ -271,6 +272,13 @@ impl<B: Copy> Table<B> {
         ensures { result ≡ len self.now.names }
     {
         self.map.len()
+    }
+
+    // Does nothing. Each noted row is as wide as is said.
+    pub(crate) fn rows_fit(&self)
+        ensures { EachNoted (HasRow self.now.width) self.now.names }
+    {
+        let _ = &self.width;
     }
 }
 

@@ -50,8 +50,8 @@ fn noted(alloc: Global) -> Result<Past, NoMemory> {
     past_of(alloc, &now)
 }
 
-// What is said of vertices.
-fn said_of_verts(past: &Past) -> [u8; 3] {
+/// What is said of vertices.
+pub(crate) fn said_of_verts(past: &Past) -> [u8; 3] {
     [
         said(past, Elem::Vert(VertName(2))),
         said(past, Elem::Vert(VertName(3))),
@@ -59,8 +59,8 @@ fn said_of_verts(past: &Past) -> [u8; 3] {
     ]
 }
 
-// What is said of edges.
-fn said_of_edges(past: &Past) -> [u8; 4] {
+/// What is said of edges.
+pub(crate) fn said_of_edges(past: &Past) -> [u8; 4] {
     [
         said(past, Elem::Edge(EdgeName(0))),
         said(past, Elem::Edge(EdgeName(1))),
@@ -69,8 +69,8 @@ fn said_of_edges(past: &Past) -> [u8; 4] {
     ]
 }
 
-// What is said of faces.
-fn said_of_faces(past: &Past) -> [u8; 2] {
+/// What is said of faces.
+pub(crate) fn said_of_faces(past: &Past) -> [u8; 2] {
     [
         said(past, Elem::Face(FaceName(0))),
         said(past, Elem::Face(FaceName(1))),
@@ -96,8 +96,8 @@ fn has_records(rt: &impl Abort, past: &Past) {
     confirm(rt, "no ends", ends(past, 4) == None);
 }
 
-// The record of the face: its corners, and the rows of values.
-fn has_face(rt: &impl Abort, past: &Past) {
+/// The record of the face: its corners, and the rows of values.
+pub(crate) fn has_face(rt: &impl Abort, past: &Past) {
     confirm(rt, "corners", corner_count(past, 0) == Some(4));
     let last = (VertName(3), EdgeName(3));
     confirm(rt, "a corner", corner(past, 0, 3) == Some(last));

@@ -1,0 +1,9 @@
+use Rattle.std.proofs.Common.{◌≡◌}
+use Rattle.mesh_trail.specs.Between.{NotesEdges}
+use Rattle.mesh_trail.proofs.between.note_edges.Given as goal
+
+abbrev pub invariant-loop-n : goal.invariant-loop-n
+invariant-loop-n g l = record {
+  notes : NotesEdges l.fn.past.changes l.past.changes (g.S.Shape.complex l.shape) l.n;
+  widths : l.past.widths ≡ l.fn.past.widths;
+}

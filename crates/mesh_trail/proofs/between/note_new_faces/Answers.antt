@@ -1,0 +1,41 @@
+use Rattle.std.proofs.Common.{refl, sym, ap, ◌∙◌, arith}
+use Rattle.mesh_model.specs.ChangeSet.{ChangeSet, same_face}
+use Rattle.mesh_model.specs.ChangeSetNotes.{Notes}
+use Rattle.mesh_model.specs.declared.records.FaceRec.{FaceRec}
+use Rattle.mesh_model.specs.declared.records.Counters.{Counters}
+use Rattle.mesh_trail.proofs.NewNotes.{new_none, new_one, new_all}
+use Rattle.mesh_trail.proofs.between.note_new_faces.Goals as goal
+
+pub loop-n-init : goal.loop-n-init
+loop-n-init g c = record {
+  new = new_none same_face (g.S.Shape.complex c.args.now.now).faces c.args.past.now.changes.faces c.requires.first;
+  rest = refl;
+  widths = refl;
+}
+
+pub note_new_face-requires-clause-wide : goal.note_new_face-requires-clause-wide
+note_new_face-requires-clause-wide g c = c.loop-n.invariant.widths ∙ c.requires.wide
+
+pub loop-n-preserved : goal.loop-n-preserved
+loop-n-preserved g c =
+    let inv = c.loop-n.invariant in
+    let e = c.in_ok-note_new_face.ensures.ok in
+    let own = ap (λ (p : ChangeSet). p.faces) e in
+    let with = λ (m : Notes FaceRec) (p : ChangeSet). let r : ChangeSet = record p { faces = m } in r in
+    record {
+      new = new_one same_face (g.S.Shape.complex c.args.now.now).faces c.loop-n.past.changes.faces
+          c.note_new_face.new.past.changes.faces c.loop-n.n inv.new own;
+      rest = e ∙ ap (with _) inv.rest ∙ ap (λ (m : Notes FaceRec). with m c.args.past.now.changes) (sym own);
+      widths = c.note_new_face.ensures.widths ∙ inv.widths;
+    }
+
+pub returns-clause-ok : goal.returns-clause-ok
+returns-clause-ok g c =
+    let inv = c.loop-n.invariant in
+    let long = ap (λ (n : Counters). n.faces) c.counters-next.ensures.counters in
+    inv.rest ∙ ap (λ (m : Notes FaceRec). let r : ChangeSet = record c.args.past.now.changes { faces = m } in r)
+    (new_all same_face (g.S.Shape.complex c.args.now.now).faces c.loop-n.past.changes.faces c.loop-n.n inv.new
+    (omega arith))
+
+pub returns-clause-widths : goal.returns-clause-widths
+returns-clause-widths g c = c.loop-n.invariant.widths
