@@ -1,14 +1,13 @@
 -- A complex is made name by name from another.
-use Rattle.std.proofs.Common.{◌≡◌, ◌≢◌, ◌<◌, ◌≤◌, ◌+◌, ◌++◌, ℕ, zero, suc, ℤ, true, false, is_some, List, [], ◌∷◌, Option, Some, None, length, map, take, drop, get_or, refl, sym, ap, ◌∙◌, subst, arith}
-use Rattle.std.specs.List.{All, slice_get, flat_map}
+use Rattle.std.proofs.Common.{◌≡◌, ◌≢◌, ◌<◌, ◌≤◌, ◌+◌, ◌++◌, ℕ, zero, suc, ℤ, false, is_some, List, [], ◌∷◌, Option, Some, None, length, take, get_or, refl, sym, ap, ◌∙◌, subst, arith}
+use Rattle.std.specs.List.{All, slice_get}
 use Rattle.std.specs.Option.{option_map}
 use Rattle.std.proofs.lemmas.Bool.{false≢true}
-use Rattle.std.proofs.lemmas.List.{length-append, length-map, length-take, take_all, take_more}
+use Rattle.std.proofs.lemmas.List.{length-map, length-take, take_all, take_more}
 use Rattle.std.proofs.lemmas.List.Sums.{sum_by_push, sum_by-take-le}
 use Rattle.mesh_model.specs.Table.{at, update, IsThere}
-use Rattle.mesh_model.specs.Complex.{KindLayers, Complex, corner_sum, corners_of, width}
+use Rattle.mesh_model.specs.Complex.{KindLayers, Complex, corner_sum, corners_of}
 use Rattle.mesh_model.specs.Valid.{IsCornerLinked, IsLinked}
-use Rattle.mesh_model.specs.declared.names.Kind.TheVariants.{Corners}
 use Rattle.cust_data.specs.Layers.{total}
 use Rattle.std.proofs.lemmas.Option.{slice_get_within, get_or_from_slice_get}
 use Rattle.mesh_model.proofs.Tables.{stands}
@@ -21,9 +20,9 @@ use Rattle.mesh_model.specs.declared.records.VertRec.{VertRec}
 use Rattle.mesh_model.specs.declared.records.EdgeRec.{EdgeRec}
 use Rattle.mesh_model.specs.declared.records.CornerRec.{CornerRec}
 use Rattle.mesh_model.specs.declared.records.FaceRec.{FaceRec}
-use Rattle.mesh_model.proofs.Copies.{pair, wide-found, corner-piece, corner-at, side-at}
-use Rattle.mesh_model.proofs.Reading.{AreWide, wide-linked, take_more_get, pieces-more, pieces-within}
-use Rattle.mesh_records.specs.Room.{Amounts, UsesAtMost, of_face, none_of_all}
+use Rattle.mesh_model.proofs.Copies.{pair}
+use Rattle.mesh_model.proofs.Reading.{take_more_get}
+use Rattle.mesh_records.proofs.ReadBack.{corner_there}
 use Rattle.mesh_records.specs.Loading.{with_vert_name, with_edge_name, with_face_name, verts_to, edges_to, faces_to, corners_to, with_first_corners}
 
 -- ---- tables
@@ -276,46 +275,7 @@ module _ (c : Complex) (n : ℕ) where
   pub all_faces : length c.faces ≤ n → faces_to c n ≡ c
   all_faces h = let whole = take_all n c.faces h in λ i. record c { faces = whole i }
 
--- ---- corners told in two lists
-
--- a corner's numbers
-abbrev pub numbers_of : CornerRec → List ℤ
-numbers_of k = k.vals
-
--- what two lists tell of a corner: its vertex and its edge in one, and its row at its place in the other
-pub record IsTold (ks : List CornerRec) (sides : List (VertName × EdgeName)) (numbers : List ℤ) (w from i : ℕ) : Type 0
-  where
-    pub corner : CornerRec
-    pub here : slice_get ks i ≡ Some corner
-    pub side : (d : VertName × EdgeName) → get_or sides i d ≡ pair corner
-    pub wide : length corner.vals ≡ w
-    pub within : from + w ≤ length numbers
-    pub piece : take w (drop from numbers) ≡ corner.vals
-    pub next : from + w ≡ length (flat_map numbers_of (take (i + 1) ks))
-
-pub is_told : (ks : List CornerRec) (sides : List (VertName × EdgeName)) (numbers : List ℤ) (w from i : ℕ)
-    → AreWide w ks → sides ≡ map pair ks → numbers ≡ flat_map numbers_of ks
-    → from ≡ length (flat_map numbers_of (take i ks)) → i < length ks → IsTold ks sides numbers w from i
-is_told ks sides numbers w from i wide s n start low =
-    let k = corner-at ks i low in
-    let long = wide-found w ks i k.0 wide k.1 in
-    let within = pieces-within numbers_of ks i (k.0).vals (ap (option_map numbers_of) k.1) in
-    let more = pieces-more numbers_of ks i (k.0).vals (ap (option_map numbers_of) k.1) in
-    record {
-      corner = k.0;
-      here = k.1;
-      side = λ d. ap (λ (xs : List (VertName × EdgeName)). get_or xs i d) s ∙ side-at ks i k.0 d k.1;
-      wide = long;
-      within = omega (arith, start, ap length n, within, long);
-      piece = ap (λ (xs : List ℤ). take w (drop from xs)) n ∙ corner-piece ks i from w k.0 k.1 long start;
-      next = omega (
-        arith,
-        start,
-        ap length more,
-        length-append (flat_map numbers_of (take i ks)) (k.0).vals,
-        long,
-      );
-    }
+-- ---- corners
 
 -- a polygon of one corner
 pub all_one : {X : Type 0} (P : X → Type 0) (x : X) → P x → All P (x ∷ [])
@@ -340,28 +300,11 @@ module _ (c : Complex) (n : ℕ) (linked : IsLinked c) (there : IsThere c.faces 
       subst (IsCornerLinked c) (get_or_from_slice_get (it.0).corners i k k same)
       ((linked.faces n it.0 it.1).corners i k (slice_get_within (it.0).corners i k same))
 
-  module _ (sides : List (VertName × EdgeName)) (numbers : List ℤ) (w : ℕ)
-      (s : sides ≡ map pair (corners_of (at c.faces n))) (m : numbers ≡ flat_map numbers_of (corners_of (at c.faces n)))
-      (wide : w ≡ width c Corners) where
-    -- what is told of its corners
-    pub corner_told : (from i : ℕ) → from ≡ length (flat_map numbers_of (take i (corners_of (at c.faces n))))
-        → i < length (corners_of (at c.faces n)) → IsTold (corners_of (at c.faces n)) sides numbers w from i
-    corner_told from i start low =
-        let W = λ (x : ℕ). AreWide x (corners_of (at c.faces n)) in
-        is_told (corners_of (at c.faces n)) sides numbers w from i (subst W (sym wide) (wide-linked c n linked there)) s m
-        start low
-
-    -- of its first one
-    pub first_told : IsTold (corners_of (at c.faces n)) sides numbers w 0 0
-    first_told = corner_told 0 0 refl has_corner
-
-    -- its first side
-    pub first_side : take 1 sides ≡ pair first_told.corner ∷ []
-    first_side =
-        let d : VertName × EdgeName = (record { 0 = 0 }, record { 0 = 0 }) in
-        let low : 0 < length sides =
-        omega (arith, ap length s, length-map (corners_of (at c.faces n)) pair, has_corner) in
-        take_more sides 0 d low ∙ ap (λ (x : VertName × EdgeName). x ∷ []) (first_told.side d)
+-- a corner of a face of a linked complex is linked
+pub corner_within : (c : Complex) (n : ℕ) → IsLinked c → (i : ℕ) (k : CornerRec)
+    → slice_get (corners_of (at c.faces n)) i ≡ Some k → IsCornerLinked c k
+corner_within c n linked i k is =
+    corner_linked c n linked (corner_there c n i (slice_get_within (corners_of (at c.faces n)) i k is)) i k is
 
 -- a corner is linked in a complex of the same vertices, edges and layers
 pub linked_along : (c d : Complex) (k : CornerRec) → d.verts ≡ c.verts → d.edges ≡ c.edges → d.layers ≡ c.layers
@@ -400,19 +343,3 @@ ends_linked c n vs d linked there told =
       λ same. h.differ (ap (λ (v : VertName). v.0) a ∙ same
           ∙ sym (ap (λ (v : VertName). v.0) b)),
     )
-
--- ---- room
-
--- a face is made, and then no more is used
-pub uses_no_more : (a b c : Amounts) (k : ℕ) → UsesAtMost (of_face k) a b → UsesAtMost none_of_all b c
-    → UsesAtMost (of_face k) a c
-uses_no_more a b c k first second =
-    let f_verts = first.verts in
-    let f_edges = first.edges in
-    let f_corners = first.corners in
-    let f_faces = first.faces in
-    let s_verts = second.verts in
-    let s_edges = second.edges in
-    let s_corners = second.corners in
-    let s_faces = second.faces in
-    record { verts = omega arith; edges = omega arith; corners = omega arith; faces = omega arith }

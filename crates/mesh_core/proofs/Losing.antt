@@ -18,7 +18,7 @@ use Rattle.mesh_model.specs.declared.names.VertName.{VertName}
 use Rattle.mesh_model.specs.declared.records.CornerRec.{CornerRec}
 use Rattle.mesh_model.specs.declared.records.FaceRec.{FaceRec}
 use Rattle.mesh_model.specs.declared.records.Counters.{Counters}
-use Rattle.mesh_records.specs.ReadOff.{NameLists, corner_rec, face_rec, edge_at, face_at, read_off}
+use Rattle.mesh_records.specs.ReadOff.{NameLists, corner_rec, face_rec, edge_at, read_off}
 use Rattle.mesh_records.specs.AtSlots.{face_in}
 use Rattle.mesh_records.specs.Whole.{IsWhole}
 use Rattle.mesh_records.proofs.Options.{there}

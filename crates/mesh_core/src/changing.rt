@@ -9,6 +9,7 @@ ghost use Rattle.mesh_model.specs.Valid.{IsCornerLinked};
 ghost use Rattle.mesh_model.specs.declared.names.Kind.TheVariants.{Verts, Edges, Corners, Faces};
 ghost use Rattle.mesh_records.specs.Corners.{of_corners};
 ghost use Rattle.mesh_records.specs.MovesEnd.{end_name, with_moved};
+ghost use Rattle.mesh_records.specs.Places.{KeepsPlaces};
 ghost use Rattle.mesh_records.specs.Room.{Covers, UsesAtMost, none_of_all, of_verts, of_edges, of_face};
 ghost use Rattle.mesh_core.specs.Seen.{now, disks, room, IsAsBefore};
 
@@ -49,6 +50,7 @@ impl Mesh {
         ensures err { OnErr result (IsAsBefore self.old self.new) }
         ensures base { self.new.base ≡ self.old.base }
         ensures room { UsesAtMost none_of_all (room self.old) (room self.new) }
+        ensures places { KeepsPlaces none_of_all self.old.stored self.new.stored }
         ensures notes { UsesAtMost (of_verts 1) self.old.notes self.new.notes }
         ensures enough { Covers self.old.notes (of_verts 1) → IsOk result }
     {
@@ -66,6 +68,7 @@ impl Mesh {
         ensures err { OnErr result (IsAsBefore self.old self.new) }
         ensures base { self.new.base ≡ self.old.base }
         ensures room { UsesAtMost none_of_all (room self.old) (room self.new) }
+        ensures places { KeepsPlaces none_of_all self.old.stored self.new.stored }
         ensures notes { UsesAtMost (of_edges 1) self.old.notes self.new.notes }
         ensures enough { Covers self.old.notes (of_edges 1) → IsOk result }
     {
@@ -83,6 +86,7 @@ impl Mesh {
         ensures err { OnErr result (IsAsBefore self.old self.new) }
         ensures base { self.new.base ≡ self.old.base }
         ensures room { UsesAtMost none_of_all (room self.old) (room self.new) }
+        ensures places { KeepsPlaces none_of_all self.old.stored self.new.stored }
         ensures notes { UsesAtMost (of_face (length (corners_of (at (now self.old).faces f.0))))
             self.old.notes self.new.notes }
         ensures enough { Covers self.old.notes (of_face (length (corners_of (at (now self.old).faces f.0))))
@@ -104,6 +108,7 @@ impl Mesh {
         ensures err { OnErr result (IsAsBefore self.old self.new) }
         ensures base { self.new.base ≡ self.old.base }
         ensures room { UsesAtMost none_of_all (room self.old) (room self.new) }
+        ensures places { KeepsPlaces none_of_all self.old.stored self.new.stored }
         ensures notes { UsesAtMost (of_face (length (corners_of (at (now self.old).faces f.0))))
             self.old.notes self.new.notes }
         ensures enough { Covers self.old.notes (of_face (length (corners_of (at (now self.old).faces f.0))))

@@ -15,7 +15,9 @@
 //! | `new`, `cycles_hold`, `reserve_notes` | constant |
 //! | iterators | constant to make; what an item costs is said at each |
 //! | reading a mesh as a shape | said there |
-//! | `snapshot`, `load` | the names and the corners |
+//! | `snapshot`, `load`, `mark` | the names and the corners |
+//! | `keep` | the names of the mesh and of its base, and the corners of the base |
+//! | `back` | the elements that are there, and the names and corners of the base |
 //! | `find_edge` | the edges around the vertex that has fewer |
 //! | `can_lose_vert` | the names of faces and the corners |
 //! | `make_vert`, `make_edge` | constant, but for the room that is made |
@@ -32,9 +34,11 @@ mod around;
 mod changing;
 mod conditions;
 mod corners;
+mod filling;
 mod loading;
 mod mesh;
 mod mesh_shape;
+mod returning;
 mod rising;
 
 pub use around::{EdgesAt, FacesAtEdge, FacesAtVert};
@@ -43,4 +47,5 @@ pub use mesh::Mesh;
 pub use mesh_model::{
     Draft, EdgeName, Elem, FaceName, Kind, LayerDecl, NoMemory, Point, Rule, Shape, VertName,
 };
+pub use mesh_trail::Past;
 pub use rising::{EdgesByName, FacesByName, VertsByName};

@@ -12,9 +12,10 @@ ghost use Rattle.mesh_model.specs.Incidence.{is_loose, is_bare};
 ghost use Rattle.mesh_model.specs.Valid.{IsValid};
 ghost use Rattle.mesh_core.specs.Seen.{now, disks};
 ghost use Rattle.mesh_core.specs.Seen.{room};
+ghost use Rattle.mesh_records.specs.Places.{KeepsPlaces};
 ghost use Rattle.mesh_records.specs.Room.{Covers, UsesAtMost, none_of_all, of_verts, of_edges, of_face};
 ghost use Rattle.mesh_records.specs.Room.{gone_with_edge, gone_with_vert};
-ghost use Rattle.mesh_core.specs.Seen.{IsAsBefore};
+ghost use Rattle.mesh_core.specs.Seen.{IsAsBefore, notes_of_a_copy};
 ghost use Rattle.mesh_records.specs.Changes.{with_last, only_without_edge, only_without_vert, without_name};
 ghost use Rattle.mesh_records.specs.Changes.{has_no_corner, without_edges_at};
 ghost use Rattle.mesh_core.specs.Seen.{CyclesHold};
@@ -59,8 +60,8 @@ pub struct Mesh {
     pub(crate) next: Counters,
     pub(crate) materials: Sequence<Text>,
     pub(crate) libraries: Sequence<Text>,
-    // The complex to which there is a way back, whole.
-    pub(crate) base: Draft,
+    // The complex to which there is a way back, whole, or `None` for the empty one. The store always has places for it.
+    pub(crate) base: Option<Draft>,
 }
 
 impl Model for Mesh {
@@ -68,18 +69,18 @@ impl Model for Mesh {
 
     ghost Value = { Seen };
 
-    ghost use Rattle.mesh_core.specs.Seen.{notes_of_a_copy};
-    ghost use Rattle.mesh_records.specs.Whole.{IsWhole};
+    ghost use Rattle.mesh_core.specs.Seen.{notes_of_a_copy, kept_base, IsMesh};
 
     ghost view = { λ m. record {
       stored = m.store;
       next = m.next;
       lists = record { materials = m.materials; libraries = m.libraries };
-      base = m.base;
+      base = kept_base m.base;
       notes = notes_of_a_copy;
     } };
 
-    ghost invariant = { λ m. IsWhole m.store m.next };
+    ghost invariant = { λ m. IsMesh m.store m.next
+        (record { materials = m.materials; libraries = m.libraries }) m.base };
 }
 
 impl Mesh {
@@ -100,7 +101,7 @@ impl Mesh {
             },
             materials: Sequence::new(alloc),
             libraries: Sequence::new(alloc),
-            base: Draft::bare(alloc),
+            base: None,
         }
     }
 
@@ -281,6 +282,16 @@ impl Mesh {
     }
 }
 
+/// Notes.
+impl Mesh {
+    // Does nothing. As long as the base is kept whole, there are notes for every call.
+    pub(crate) fn notes_are(&self)
+        ensures { self.now.notes ≡ notes_of_a_copy }
+    {
+        let _ = &self.next;
+    }
+}
+
 /// Making.
 ///
 /// A new element has the next name of its kind, and the values of an example of its kind, or else zeros. A call takes
@@ -297,6 +308,7 @@ impl Mesh {
         ensures base { self.new.base ≡ self.old.base }
         ensures room { UsesAtMost (of_verts 1) (room self.old) (room self.new) }
         ensures notes { UsesAtMost (of_verts 1) self.old.notes self.new.notes }
+        ensures places { KeepsPlaces (of_verts 1) self.old.stored self.new.stored }
         ensures enough { Covers (room self.old) (of_verts 1) → Covers self.old.notes (of_verts 1) → IsOk result }
     {
         let name = self.next.verts;
@@ -326,6 +338,7 @@ impl Mesh {
         ensures base { self.new.base ≡ self.old.base }
         ensures room { UsesAtMost (of_edges 1) (room self.old) (room self.new) }
         ensures notes { UsesAtMost (of_edges 1) self.old.notes self.new.notes }
+        ensures places { KeepsPlaces (of_edges 1) self.old.stored self.new.stored }
         ensures enough { Covers (room self.old) (of_edges 1) → Covers self.old.notes (of_edges 1) → IsOk result }
     {
         let name = self.next.edges;
@@ -359,6 +372,7 @@ impl Mesh {
         ensures base { self.new.base ≡ self.old.base }
         ensures room { UsesAtMost (of_face (length corners.now)) (room self.old) (room self.new) }
         ensures notes { UsesAtMost (of_face 0) self.old.notes self.new.notes }
+        ensures places { KeepsPlaces (of_face (length corners.now)) self.old.stored self.new.stored }
         ensures enough { Covers (room self.old) (of_face (length corners.now)) → Covers self.old.notes (of_face 0)
             → IsOk result }
     {

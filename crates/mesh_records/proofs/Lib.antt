@@ -55,3 +55,6 @@ pub mod LoopCounts
 pub mod Inserts
 pub mod Reversals
 pub mod Shifts
+pub mod Places
+pub mod Counted
+pub mod Cleared

@@ -3,6 +3,7 @@ pub mod Loading
 pub mod AtSlots
 pub mod ReadOff
 pub mod Room
+pub mod Places
 pub mod Changes
 pub mod Whole
 pub mod Rewrites

@@ -8,7 +8,9 @@ ghost use Rattle.mesh_store.specs.Slots.{at};
 ghost use Rattle.mesh_model.specs.Complex.{corners_of};
 ghost use Rattle.mesh_model.specs.Kernel.{with_corners_by, reversed_face};
 ghost use Rattle.mesh_records.specs.Changes.{turned, shifted_once, backwards};
-ghost use Rattle.mesh_records.specs.Corners.{AppendsCorner, InsertsCorner, KeepsNames};
+ghost use Rattle.mesh_records.specs.Corners.{AppendsCorner, InsertsCorner, KeepsNames, of_corners};
+ghost use Rattle.mesh_records.specs.Places.{KeepsPlaces};
+ghost use Rattle.mesh_records.specs.Room.{none_of_all};
 ghost use Rattle.mesh_records.specs.ReadOff.{face_at};
 ghost use Rattle.mesh_records.specs.Rewrites.{Rewrites};
 ghost use Rattle.mesh_records.specs.Whole.{IsWhole};
@@ -29,6 +31,7 @@ fn turn_corners(st: &mut Store, next: Counters, f: FaceName, i: u32)
     requires within { i ≤ length (corners_of (face_at st.old f.0)) }
     ensures turns { Rewrites st.old st.new next (λ c. with_corners_by c f (turned i)) }
     ensures keeps { KeepsNames st.old st.new }
+    ensures places { KeepsPlaces none_of_all st.old st.new }
 {
     let face = slot_of_face(st, f.0);
     if i < st.face_len(face) {
@@ -46,7 +49,8 @@ fn append_corner(st: &mut Store, next: Counters, f: FaceName, corner: &CornerRec
     requires wide { length corner.now.vals ≡ total st.old.values.loops.layers }
     requires few { next.corners < 2 ^ 24 }
     requires room { 1 ≤ spare_count st.old.loops }
-    ensures { AppendsCorner st.old st.new next f corner.now }
+    ensures appends { AppendsCorner st.old st.new next f corner.now }
+    ensures places { KeepsPlaces (of_corners 1) st.old st.new }
 {
     let face = slot_of_face(st, f.0);
     let v = slot_of_vert(st, corner.vert.0);
@@ -65,7 +69,8 @@ pub fn insert_corner(st: &mut Store, next: Counters, f: FaceName, i: u32, corner
     requires wide { length corner.now.vals ≡ total st.old.values.loops.layers }
     requires few { next.corners < 2 ^ 24 }
     requires room { 1 ≤ spare_count st.old.loops }
-    ensures { InsertsCorner st.old st.new next f i corner.now }
+    ensures inserts { InsertsCorner st.old st.new next f i corner.now }
+    ensures places { KeepsPlaces (of_corners 1) st.old st.new }
 {
     let face = slot_of_face(st, f.0);
     let count = st.face_len(face);
@@ -89,6 +94,7 @@ fn shift_corner(st: &mut Store, next: Counters, f: FaceName, edge: EdgeName) -> 
     ensures own { option_map (λ k. k.edge) (slice_get (corners_of (face_at st.old f.0)) 0) ≡ Some result }
     ensures faces { (j : ℕ) → at st.new.faces.names j ≡ at st.old.faces.names j }
     ensures there { is_some (at st.new.edges.names result.0) ≡ true }
+    ensures places { KeepsPlaces none_of_all st.old st.new }
 {
     let face = slot_of_face(st, f.0);
     let along = slot_of_edge(st, edge.0);
@@ -107,7 +113,8 @@ fn shift_corner(st: &mut Store, next: Counters, f: FaceName, edge: EdgeName) -> 
 fn reverse_loops(st: &mut Store, next: Counters, f: FaceName)
     requires whole { IsWhole st.old next }
     requires there { is_some (at st.old.faces.names f.0) ≡ true }
-    ensures { Rewrites st.old st.new next (λ c. with_corners_by c f backwards) }
+    ensures rewrites { Rewrites st.old st.new next (λ c. with_corners_by c f backwards) }
+    ensures places { KeepsPlaces none_of_all st.old st.new }
 {
     let face = slot_of_face(st, f.0);
     loop_reverse(st, face);
@@ -117,7 +124,8 @@ fn reverse_loops(st: &mut Store, next: Counters, f: FaceName)
 pub fn reverse_face(st: &mut Store, next: Counters, f: FaceName)
     requires whole { IsWhole st.old next }
     requires there { is_some (at st.old.faces.names f.0) ≡ true }
-    ensures { Rewrites st.old st.new next (λ c. reversed_face c f) }
+    ensures rewrites { Rewrites st.old st.new next (λ c. reversed_face c f) }
+    ensures places { KeepsPlaces none_of_all st.old st.new }
 {
     let face = slot_of_face(st, f.0);
     let count = st.face_len(face);

@@ -3,7 +3,8 @@ ghost use Rattle.std.specs.Prelude.{◌≡◌, ◌<◌, ◌≤◌, ◌^◌, leng
 ghost use Rattle.cust_data.specs.Layers.{total};
 ghost use Rattle.raw_pool.specs.Slots.{spare_count};
 ghost use Rattle.mesh_store.specs.Slots.{at};
-ghost use Rattle.mesh_records.specs.Corners.{AppendsCorner};
+ghost use Rattle.mesh_records.specs.Corners.{AppendsCorner, of_corners};
+ghost use Rattle.mesh_records.specs.Places.{KeepsPlaces};
 ghost use Rattle.mesh_records.specs.Whole.{IsWhole};
 
 use crate::putting::put_corner;
@@ -28,7 +29,8 @@ pub fn append_row(
     requires wide { length row.now ≡ total st.old.values.loops.layers }
     requires few { next.corners < 2 ^ 24 }
     requires room { 1 ≤ spare_count st.old.loops }
-    ensures { AppendsCorner st.old st.new next f (record { vert = vert; edge = edge; vals = row.now }) }
+    ensures appends { AppendsCorner st.old st.new next f (record { vert = vert; edge = edge; vals = row.now }) }
+    ensures places { KeepsPlaces (of_corners 1) st.old st.new }
 {
     let face = slot_of_face(st, f.0);
     let v = slot_of_vert(st, vert.0);

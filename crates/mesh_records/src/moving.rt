@@ -4,8 +4,10 @@ ghost use Rattle.raw_pool.specs.Slots.{IsLive};
 ghost use Rattle.mesh_cycles.specs.Cycles.{HaveCycles};
 ghost use Rattle.mesh_cycles.specs.Owners.{dart_end};
 ghost use Rattle.mesh_records.specs.MovesEnd.{end_name, MovesEnd, SetsEnd};
+ghost use Rattle.mesh_records.specs.Places.{KeepsPlaces};
 ghost use Rattle.mesh_records.specs.Puts.{dart_on};
 ghost use Rattle.mesh_records.specs.ReadOff.{edge_at};
+ghost use Rattle.mesh_records.specs.Room.{none_of_all};
 ghost use Rattle.mesh_records.specs.Whole.{AreLinked, IsWhole};
 ghost use Rattle.mesh_store.specs.Slots.{at};
 
@@ -42,7 +44,8 @@ pub fn set_end(st: &mut Store, next: Counters, e: EdgeName, side: u8, v: VertNam
     requires side { side < 2 }
     requires vert { is_some (at st.old.verts.names v.0) ≡ true }
     requires differ { end_name (1 - side) (edge_at st.old e.0) ≢ v.0 }
-    ensures { SetsEnd st.old st.new next e side (end_name side (edge_at st.old e.0)) v }
+    ensures sets { SetsEnd st.old st.new next e side (end_name side (edge_at st.old e.0)) v }
+    ensures places { KeepsPlaces none_of_all st.old st.new }
 {
     let edge = slot_of_edge(st, e.0);
     let to = slot_of_vert(st, v.0);

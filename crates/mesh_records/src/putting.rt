@@ -11,7 +11,9 @@ ghost use Rattle.mesh_cycles.specs.Cycles.{AreCycles, HaveCycles};
 ghost use Rattle.mesh_records.specs.Whole.{IsWhole};
 ghost use Rattle.mesh_records.specs.Puts.{row_like, PutsVert, PutsEdge, PutsLoop, PutsCorner};
 ghost use Rattle.mesh_records.specs.Faces.{corner_put, AddsAFace};
-ghost use Rattle.mesh_records.specs.Corners.{IsWholeBut, AppendsCorners};
+ghost use Rattle.mesh_records.specs.Corners.{IsWholeBut, AppendsCorners, of_corners};
+ghost use Rattle.mesh_records.specs.Places.{KeepsPlaces};
+ghost use Rattle.mesh_records.specs.Room.{of_face};
 
 use crate::slots::{slot_of_edge, slot_of_face, slot_of_vert};
 use mesh_cycles::{disk_add, loop_append, radial_add};
@@ -93,8 +95,9 @@ pub fn put_face(
     requires verts { All (λ k. is_some (at st.old.verts.names k.0.0) ≡ true) corners.now }
     requires edges { All (λ k. is_some (at st.old.edges.names k.1.0) ≡ true) corners.now }
     requires like { IfSome like (λ s. IsLive st.old.faces.cells s.0) }
-    ensures { AddsAFace st.old st.new next
+    ensures adds { AddsAFace st.old st.new next
         (map (corner_put st.old) corners.now) (row_like st.old.values.faces like) }
+    ensures places { KeepsPlaces (of_face (length corners.now)) st.old st.new }
 {
     let face = st.add_face(next.faces);
     fill_row(st, Part::Face, like, face);
@@ -129,7 +132,8 @@ pub fn put_corners(st: &mut Store, next: Counters, f: FaceName, corners: &[Corne
     requires verts { All (λ k. is_some (at st.old.verts.names k.vert.0) ≡ true) corners.now }
     requires edges { All (λ k. is_some (at st.old.edges.names k.edge.0) ≡ true) corners.now }
     requires wide { All (λ k. length k.vals ≡ total st.old.values.loops.layers) corners.now }
-    ensures { AppendsCorners st.old st.new next f corners.now (length corners.now) }
+    ensures appends { AppendsCorners st.old st.new next f corners.now (length corners.now) }
+    ensures places { KeepsPlaces (of_corners (length corners.now)) st.old st.new }
 {
     let face = slot_of_face(st, f.0);
     for corner in corners {

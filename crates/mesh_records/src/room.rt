@@ -1,7 +1,8 @@
 //! Room for elements that are to come.
 ghost use Rattle.std.specs.Prelude.{◌≤◌, ◌+◌, ◌^◌, [], ◌∷◌, OnOk, IsOk};
 ghost use Rattle.mesh_store.specs.Room.{HasRoom};
-ghost use Rattle.mesh_records.specs.Room.{room_in, Covers};
+ghost use Rattle.mesh_records.specs.Places.{KeepsPlaces};
+ghost use Rattle.mesh_records.specs.Room.{room_in, Covers, none_of_all};
 ghost use Rattle.mesh_records.specs.Frames.{StaysWhole};
 ghost use Rattle.mesh_records.specs.Whole.{IsWhole};
 
@@ -24,6 +25,7 @@ pub fn make_room(
     requires corners { corners ≤ 2 ^ 24 }
     requires faces { faces ≤ 2 ^ 24 }
     ensures stays { StaysWhole st.old st.new next }
+    ensures places { KeepsPlaces none_of_all st.old st.new }
     ensures ok { OnOk result (HasRoom st.new verts edges corners faces
         ((next.verts + verts) ∷ (next.edges + edges) ∷ (next.faces + faces) ∷ [])) }
     ensures enough { Covers (room_in st.old next)

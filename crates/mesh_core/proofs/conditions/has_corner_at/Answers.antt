@@ -1,7 +1,6 @@
-use Rattle.std.proofs.Common.{◌≡◌, ◌==◌, rules, Bool, false, List, sym, ap, ◌∙◌}
+use Rattle.std.proofs.Common.{◌==◌, rules, sym, ap, ◌∙◌}
 use Rattle.std.specs.List.{list_any}
 use Rattle.std.proofs.lemmas.Bool.{eq-eqb, eqb-true, false_from_ne_true}
-use Rattle.raw_pool.specs.declared.pool.Slot.{Slot}
 use Rattle.mesh_cycles.specs.Found.{loops_in}
 use Rattle.mesh_cycles.specs.Left.{loops_in_left}
 use Rattle.mesh_cycles.proofs.Mapped.{next_taken}

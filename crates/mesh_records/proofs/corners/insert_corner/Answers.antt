@@ -11,6 +11,9 @@ use Rattle.mesh_records.proofs.CornerChanges.{turned_long}
 use Rattle.mesh_records.proofs.Elements.{name_live}
 use Rattle.mesh_records.proofs.Inserts.{inserts_corner}
 use Rattle.mesh_records.proofs.LoopCounts.{loops_many, len_loops, corners_by}
+use Rattle.mesh_records.specs.Corners.{of_corners}
+use Rattle.mesh_records.specs.Room.{none_of_all}
+use Rattle.mesh_records.proofs.Places.{keeps_then, none_more, none_first}
 use Rattle.mesh_records.proofs.corners.insert_corner.Goals as goal
 
 pub face_len-count-requires : goal.face_len-count-requires
@@ -44,7 +47,7 @@ overflow_sub-count c =
 
 pub turn_corners-requires-2-clause-there : goal.turn_corners-requires-2-clause-there
 turn_corners-requires-2-clause-there c = ap (λ (o : Option Slot). is_some o)
-    (c.append_corner.ensures.face_names c.args.f.0 ∙ c.turn_corners.ensures.keeps.face_names c.args.f.0)
+    (c.append_corner.ensures.appends.face_names c.args.f.0 ∙ c.turn_corners.ensures.keeps.face_names c.args.f.0)
     ∙ c.requires.there
 
 pub turn_corners-requires-2-clause-within : goal.turn_corners-requires-2-clause-within
@@ -58,7 +61,7 @@ turn_corners-requires-2-clause-within c =
     let many = loops_many st n w f c.slot_of_face-face.result c.slot_of_face-face.ensures in
     let t = c.turn_corners.ensures.turns in
     let one = corners_by st c.turn_corners.new.st n n w.records t.whole.records c.args.f (turned c.args.i) t.read c.requires.there in
-    let a = c.append_corner.ensures in
+    let a = c.append_corner.ensures.appends in
     let there = ap (λ (o : Option Slot). is_some o) (c.turn_corners.ensures.keeps.face_names f) ∙ c.requires.there in
     let two = corners_by c.turn_corners.new.st c.append_corner.new.st n _ t.whole.records a.whole.records c.args.f
     (λ (ks : List CornerRec). ks ++ c.args.corner.now ∷ []) a.read there in
@@ -68,8 +71,8 @@ turn_corners-requires-2-clause-within c =
     let more = length-append (corners_of (face_at c.turn_corners.new.st f)) (c.args.corner.now ∷ []) in
     omega arith
 
-pub returns : goal.returns
-returns c =
+pub returns-clause-inserts : goal.returns-clause-inserts
+returns-clause-inserts c =
     let f = c.args.f.0 in
     let n = c.args.next in
     let st = c.args.st.now in
@@ -79,4 +82,12 @@ returns c =
     let many = loops_many st n w f c.slot_of_face-face.result c.slot_of_face-face.ensures in
     inserts_corner st c.turn_corners.new.st c.append_corner.new.st c.turn_corners-2.new.st n w c.args.f c.args.i
     c.args.corner.now c.face_len-count.result (omega arith) c.requires.within c.turn_corners.ensures.turns
-    c.append_corner.ensures c.turn_corners-2.ensures.turns
+    c.append_corner.ensures.appends c.turn_corners-2.ensures.turns
+
+pub returns-clause-places : goal.returns-clause-places
+returns-clause-places c =
+    let st = c.args.st.now in
+    let one = of_corners 1 in
+    keeps_then one none_of_all one st c.append_corner.new.st c.turn_corners-2.new.st (none_more one)
+    (keeps_then none_of_all one one st c.turn_corners.new.st c.append_corner.new.st (none_first one)
+    c.turn_corners.ensures.places c.append_corner.ensures.places) c.turn_corners-2.ensures.places

@@ -15,6 +15,8 @@ use Rattle.mesh_records.proofs.LoopCounts.{loops_many, len_loops, some_loops, co
 use Rattle.mesh_records.proofs.ReadBack.{few_numbers, loop_there}
 use Rattle.mesh_records.proofs.Reversals.{half_shifted, none_shifted, shifted_on, backwards_all, first_left}
 use Rattle.mesh_records.proofs.Shifts.{corner_edge_there, corners_then, rewrites_none, last_corner_edge}
+use Rattle.mesh_records.specs.Room.{none_of_all}
+use Rattle.mesh_records.proofs.Places.{keeps_same, keeps_then, none_more}
 use Rattle.mesh_records.proofs.corners.reverse_face.Goals as goal
 
 pub face_len-count-requires : goal.face_len-count-requires
@@ -50,6 +52,7 @@ loop-step-init c = record {
   edge_there = ap (λ (p : VertName × EdgeName). is_some (at c.args.st.now.edges.names p.1.0)) c.corner_at.ensures
       ∙ corner_edge_there c.args.st.now c.args.next c.requires.whole c.slot_of_face-face.result c.loop_at-last.result
       (c.face_len-count.result - 1) c.loop_at-last.ensures;
+  places = keeps_same c.args.st.now c.args.st.now refl;
 }
 
 pub shift_corner-edge-requires-clause-whole : goal.shift_corner-edge-requires-clause-whole
@@ -89,6 +92,8 @@ loop-step-preserved c =
       edge = first_left e cs i no_corner c.shift_corner-edge.result low own;
       there = ap (λ (o : Option Slot). is_some o) (s.faces c.args.f.0) ∙ inv.there;
       edge_there = s.there;
+      places = keeps_then none_of_all none_of_all none_of_all st c.loop-step.st c.shift_corner-edge.new.st
+          (none_more none_of_all) inv.places s.places;
     }
 
 pub reverse_loops-requires-clause-whole : goal.reverse_loops-requires-clause-whole
@@ -97,8 +102,8 @@ reverse_loops-requires-clause-whole c = c.loop-step.invariant.rewrites.whole
 pub reverse_loops-requires-clause-there : goal.reverse_loops-requires-clause-there
 reverse_loops-requires-clause-there c = c.loop-step.invariant.there
 
-pub returns : goal.returns
-returns c =
+pub returns-clause-rewrites : goal.returns-clause-rewrites
+returns-clause-rewrites c =
     let st = c.args.st.now in
     let n = c.args.next in
     let w = c.requires.whole in
@@ -114,5 +119,9 @@ returns c =
     let last = last_corner_edge st n w c.args.f c.slot_of_face-face.result c.loop_at-last.result
     (c.face_len-count.result - 1) e c.slot_of_face-face.ensures c.loop_at-last.ensures (omega arith)
     (ap (λ (p : VertName × EdgeName). p.1) c.corner_at.ensures) in
-    corners_then w c.args.f (half_shifted e i) backwards reversed inv.rewrites c.reverse_loops.ensures
+    corners_then w c.args.f (half_shifted e i) backwards reversed inv.rewrites c.reverse_loops.ensures.rewrites
     (ap (λ (j : ℕ). backwards (half_shifted e j cs)) all ∙ backwards_all e cs last)
+
+pub returns-clause-places : goal.returns-clause-places
+returns-clause-places c = keeps_then none_of_all none_of_all none_of_all c.args.st.now c.loop-step.st
+    c.reverse_loops.new.st (none_more none_of_all) c.loop-step.invariant.places c.reverse_loops.ensures.places

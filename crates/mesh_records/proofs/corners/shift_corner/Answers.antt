@@ -14,6 +14,7 @@ use Rattle.mesh_records.proofs.LoopCounts.{some_loops}
 use Rattle.mesh_records.proofs.Loses.{loop_of, cycles_left}
 use Rattle.mesh_records.proofs.Options.{has_key}
 use Rattle.mesh_records.proofs.Shifts.{shifts_corner, first_edge, corner_edge_there}
+use Rattle.mesh_records.proofs.Places.{keeps_shifted}
 use Rattle.mesh_records.proofs.corners.shift_corner.Goals as goal
 
 pub loop_at-corner-requires-clause-live : goal.loop_at-corner-requires-clause-live
@@ -77,3 +78,8 @@ returns-clause-there c =
     ∙ ap (λ (xs : List (Option Slot)). is_some (at xs c.corner_at.result.1.0)) c.put_corner.ensures.puts.edge_names
     ∙ ap (λ (xs : List (Option Slot)). is_some (at xs c.corner_at.result.1.0)) c.take_loop.ensures.edge_names
     ∙ ap (λ (p : VertName × EdgeName). is_some (at c.args.st.now.edges.names p.1.0)) c.corner_at.ensures ∙ there
+
+pub returns-clause-places : goal.returns-clause-places
+returns-clause-places c = keeps_shifted c.args.st.now c.take_loop.new.st c.put_corner.new.st c.slot_of_face-face.result
+    c.loop_at-corner.result c.slot_of_face-face.result c.loop_vert-v.result c.slot_of_edge-along.result _
+    c.put_corner.result c.take_loop.ensures c.put_corner.ensures

@@ -1,9 +1,10 @@
-use Rattle.std.proofs.Common.{arith}
+use Rattle.std.proofs.Common.{refl, arith}
 use Rattle.mesh_records.proofs.CornersLost.{placed}
 use Rattle.mesh_records.proofs.Elements.{name_live}
 use Rattle.mesh_records.proofs.LoopCounts.{loops_many, len_loops}
 use Rattle.mesh_records.proofs.Reordered.{keeps_bare}
 use Rattle.mesh_records.proofs.Turned.{turns_corners, turns_none}
+use Rattle.mesh_records.proofs.Places.{keeps_same, keeps_bare_places}
 use Rattle.mesh_records.proofs.corners.turn_corners.Goals as goal
 
 pub face_len-requires : goal.face_len-requires
@@ -36,3 +37,9 @@ returns-else-i-face_len-clause-turns c =
 
 pub returns-then-i-face_len-clause-keeps : goal.returns-then-i-face_len-clause-keeps
 returns-then-i-face_len-clause-keeps c = keeps_bare c.args.st.now c.loop_turn.new.st c.loop_turn.ensures.stays
+
+pub returns-then-i-face_len-clause-places : goal.returns-then-i-face_len-clause-places
+returns-then-i-face_len-clause-places c = keeps_bare_places c.args.st.now c.loop_turn.new.st c.loop_turn.ensures.stays
+
+pub returns-else-i-face_len-clause-places : goal.returns-else-i-face_len-clause-places
+returns-else-i-face_len-clause-places c = keeps_same c.args.st.now c.args.st.now refl

@@ -1,4 +1,4 @@
-use Rattle.std.proofs.Common.{◌≡◌, ◌-◌, ℕ, rules, List, length, ap, sym, ◌∙◌, arith}
+use Rattle.std.proofs.Common.{◌≡◌, ◌-◌, ℕ, rules, List, length, refl, ap, sym, ◌∙◌, arith}
 use Rattle.std.specs.Prelude.{slice_index_or}
 use Rattle.std.specs.Option.{option_map}
 use Rattle.mesh_store.specs.Stored.{no_slot}
@@ -13,6 +13,7 @@ use Rattle.mesh_records.proofs.ByName.{vert_named}
 use Rattle.mesh_records.proofs.Elements.{name_live}
 use Rattle.mesh_records.proofs.EndSet.{sets_end, sets_none, end_named, end_leads}
 use Rattle.mesh_records.proofs.Options.{HasKey, has_key}
+use Rattle.mesh_records.proofs.Places.{keeps_same, keeps_moved}
 use Rattle.mesh_records.proofs.moving.set_end.Goals as goal
 
 pub ends-ends-requires : goal.ends-ends-requires
@@ -40,8 +41,8 @@ move_end-requires-clause-differ c = λ e.
     ∙ vert_named c.args.st.now c.args.next c.requires.whole.records c.args.v.0 c.slot_of_vert-to.result
     c.slot_of_vert-to.ensures)
 
-pub returns-then-from-to : goal.returns-then-from-to
-returns-then-from-to c =
+pub returns-then-from-to-clause-sets : goal.returns-then-from-to-clause-sets
+returns-then-from-to-clause-sets c =
     let st = c.args.st.now in
     let n = c.args.next in
     let w = c.requires.whole in
@@ -59,8 +60,8 @@ returns-then-from-to c =
     (λ q. c.if-from-to.true (ap (λ (s : Slot). s.0) (same_Some _ _ (sym leads
     ∙ ap (λ (j : ℕ). at st.verts.names j) q ∙ to.ensures)))) k.cell k.is long ends_at c.move_end.ensures
 
-pub returns-else-from-to : goal.returns-else-from-to
-returns-else-from-to c =
+pub returns-else-from-to-clause-sets : goal.returns-else-from-to-clause-sets
+returns-else-from-to-clause-sets c =
     let st = c.args.st.now in
     let n = c.args.next in
     let w = c.requires.whole in
@@ -73,3 +74,10 @@ returns-else-from-to c =
     (end_named st n w c.args.e e c.slot_of_edge-edge.ensures k.cell k.is c.args.side c.requires.side
     ∙ ap (λ (j : ℕ). (vert_name st j).0) (ends_at ∙ c.if-from-to.false)
     ∙ vert_named st n w.records c.args.v.0 to.result to.ensures)
+
+pub returns-then-from-to-clause-places : goal.returns-then-from-to-clause-places
+returns-then-from-to-clause-places c = keeps_moved c.args.st.now c.move_end.new.st c.slot_of_edge-edge.result
+    c.args.side _ c.slot_of_vert-to.result c.move_end.ensures
+
+pub returns-else-from-to-clause-places : goal.returns-else-from-to-clause-places
+returns-else-from-to-clause-places c = keeps_same c.args.st.now c.args.st.now refl

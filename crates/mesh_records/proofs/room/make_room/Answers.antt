@@ -1,4 +1,5 @@
 use Rattle.mesh_records.proofs.Frames.{widened, has_room}
+use Rattle.mesh_records.proofs.Places.{keeps_widened}
 use Rattle.mesh_records.proofs.room.make_room.Goals as goal
 
 pub returns-clause-stays : goal.returns-clause-stays
@@ -16,3 +17,6 @@ returns-clause-stays c =
 pub returns-clause-enough : goal.returns-clause-enough
 returns-clause-enough c = λ h. (c.reserve-made.ensures.enough
     (has_room c.args.st.now c.args.next _ c.requires.whole.sizes h)).0
+
+pub returns-clause-places : goal.returns-clause-places
+returns-clause-places c = keeps_widened _ _ _ _ _ _ _ _ c.reserve-made.ensures.widens

@@ -8,7 +8,6 @@ use Rattle.mesh_store.specs.Stored.{Stored}
 use Rattle.mesh_store.specs.declared.layers.Part.{Part}
 use Rattle.mesh_model.specs.Complex.{Complex, layers_of}
 use Rattle.mesh_model.specs.Declaring.{with_declared}
-use Rattle.mesh_records.specs.Kinds.{part_of}
 use Rattle.mesh_records.specs.ReadOff.{NameLists}
 use Rattle.mesh_records.specs.Rewrites.{Rewrites}
 use Rattle.mesh_records.specs.Whole.{IsWhole}
@@ -37,13 +36,14 @@ invariant_of-self c =
     let layer : Layer = record { name = c.args.name.now; width = c.args.width; rule = c.args.rule } in
     let F = λ (x : Complex). refusal_of (layers_of x.layers kind) c.args.name.now c.args.width ≡ None in
     let free = subst F (sym (ap now c.self.view_is)) c.requires in
-    let added = declares_layer c.self.inside.store c.self.inside.next c.self.invariant layer kind free in
+    let added = declares_layer c.self.inside.store c.self.inside.next c.self.invariant.whole layer kind free in
     let part = ap (λ (p : Part). change_table p (λ (t : LayerTable). with_layer t layer) c.self.inside.store)
     c.part_of.ensures in
     let W = λ (st : Stored). IsWhole st c.self.inside.next in
-    either W c.add_layer.result c.add_layer.new.self
+    let whole = either W c.add_layer.result c.add_layer.new.self
     (change_table c.part_of.result (λ (t : LayerTable). with_layer t layer) c.self.inside.store) c.self.inside.store
-    c.add_layer.ensures.ok c.add_layer.ensures.err (subst W (sym part) added.whole) c.self.invariant
+    c.add_layer.ensures.ok c.add_layer.ensures.err (subst W (sym part) added.whole) c.self.invariant.whole in
+    record { whole = whole; back = tt }
 
 pub returns : goal.returns
 returns c =
@@ -51,7 +51,7 @@ returns c =
     let layer : Layer = record { name = c.args.name.now; width = c.args.width; rule = c.args.rule } in
     let F = λ (x : Complex). refusal_of (layers_of x.layers kind) c.args.name.now c.args.width ≡ None in
     let free = subst F (sym (ap now c.self.view_is)) c.requires in
-    let added = declares_layer c.self.inside.store c.self.inside.next c.self.invariant layer kind free in
+    let added = declares_layer c.self.inside.store c.self.inside.next c.self.invariant.whole layer kind free in
     let part = ap (λ (p : Part). change_table p (λ (t : LayerTable). with_layer t layer) c.self.inside.store)
     c.part_of.ensures in
     let lists : NameLists = record { materials = c.self.inside.materials; libraries = c.self.inside.libraries } in

@@ -6,6 +6,8 @@ use Rattle.mesh_model.specs.declared.records.CornerRec.{CornerRec}
 use Rattle.mesh_core.specs.Seen.{Seen, now, room}
 use Rattle.mesh_records.specs.ReadOff.{NameLists}
 use Rattle.mesh_records.proofs.Examples.{vert_of_name, edge_of_name, face_of_name}
+use Rattle.mesh_records.specs.Corners.{of_corners}
+use Rattle.mesh_core.proofs.Kept.{mesh_kept, places_seen}
 use Rattle.mesh_core.proofs.mesh.Mesh.append_corner.Goals as goal
 
 pub append_row-requires-clause-there : goal.append_row-requires-clause-there
@@ -27,7 +29,7 @@ append_row-requires-clause-wide c = let P =
 
 pub append_row-requires-clause-few : goal.append_row-requires-clause-few
 append_row-requires-clause-few c =
-    let corners = c.self.invariant.corners in
+    let corners = c.self.invariant.whole.corners in
     let sum = ap (λ (m : Seen). corner_sum (now m).faces) c.self.view_is in
     let few = c.requires.few in
     omega arith
@@ -39,12 +41,19 @@ append_row-requires-clause-room c =
     omega arith
 
 pub invariant_of-self : goal.invariant_of-self
-invariant_of-self c = c.append_row.ensures.whole
+invariant_of-self c =
+    let lists : NameLists = record { materials = c.self.inside.materials; libraries = c.self.inside.libraries } in
+    mesh_kept (of_corners 1) c.self.invariant c.append_row.ensures.appends.whole c.append_row.ensures.places
+    (ap (λ (x : Complex). x.layers) (c.append_row.ensures.appends.read lists))
 
 pub returns-clause-now : goal.returns-clause-now
 returns-clause-now c =
     let lists : NameLists = record { materials = c.self.inside.materials; libraries = c.self.inside.libraries } in
     let corner : CornerRec = record { vert = c.args.vert; edge = c.args.edge; vals = c.args.row.now } in
-    c.append_row.ensures.read lists
+    c.append_row.ensures.appends.read lists
     ∙ ap (λ (x : Complex). with_corners_by x c.args.f (λ (ks : List CornerRec). ks ++ corner ∷ []))
     (ap now c.self.view_is)
+
+pub returns-clause-places : goal.returns-clause-places
+returns-clause-places c = places_seen (of_corners 1) c.args.self.now
+    (ap (λ (m : Seen). m.stored) c.self.view_is) c.append_row.ensures.places

@@ -1,6 +1,9 @@
-use Rattle.std.proofs.Common.{ap, ◌∙◌, arith}
+use Rattle.std.proofs.Common.{ap, ◌∙◌, subst, arith}
 use Rattle.mesh_model.specs.Complex.{Complex}
 use Rattle.mesh_model.specs.declared.records.Counters.{Counters}
+use Rattle.mesh_records.specs.Room.{Covers}
+use Rattle.mesh_core.specs.Seen.{room}
+use Rattle.mesh_core.proofs.Filled.{becomes_reserved}
 use Rattle.mesh_core.proofs.mesh.Mesh.begun_of.Goals as goal
 
 pub layered_of-requires : goal.layered_of-requires
@@ -25,6 +28,11 @@ reserve-requires-clause-faces c =
 pub returns : goal.returns
 returns c =
     let d = c.args.draft.now in
-    c.in_ok-reserve.ensures.stays.now ∙ c.in_ok-load_names.ensures
+    let same = c.in_ok-reserve.ensures.stays.now ∙ c.in_ok-load_names.ensures
     ∙ ap (λ (x : Complex). let y : Complex = record x { materials = d.materials; libraries = d.libraries } in y)
-    c.in_ok-made.ensures
+    c.in_ok-made.ensures in
+    let C = λ (n : Counters). Covers (room c.reserve.new.self)
+    (record { verts = n.verts; edges = n.edges; corners = n.corners; faces = n.faces }) in
+    becomes_reserved c.reserve.new.self d c.requires
+    (subst C c.counters-next.ensures.counters c.in_ok-reserve.ensures.ok) (ap (λ (x : Complex). x.layers) same)
+    (ap (λ (x : Complex). x.materials) same) (ap (λ (x : Complex). x.libraries) same)

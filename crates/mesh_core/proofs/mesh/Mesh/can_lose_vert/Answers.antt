@@ -1,5 +1,4 @@
-use Rattle.std.proofs.Common.{◌≡◌, ◌<◌, ◌&&◌, false, true, None, Option, length, refl, sym, ap, ◌∙◌, arith}
-use Rattle.std.specs.List.{list_all}
+use Rattle.std.proofs.Common.{refl, sym, ap, ◌∙◌, arith}
 use Rattle.mesh_model.specs.Table.{allows}
 use Rattle.mesh_core.specs.Seen.{Seen, now}
 use Rattle.mesh_core.proofs.Losing.{lets_go, all_more, all_but, all_of}

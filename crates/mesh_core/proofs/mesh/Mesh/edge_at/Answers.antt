@@ -18,21 +18,21 @@ slot_of_vert-vert-requires c = vert_of_name c.self.inside.store c.self.inside.ne
     (ap now c.self.view_is) c.requires
 
 pub first_edge-requires : goal.first_edge-requires
-first_edge-requires c = name_live c.self.invariant.records.named.verts c.args.v.0 c.slot_of_vert-vert.result
+first_edge-requires c = name_live c.self.invariant.whole.records.named.verts c.args.v.0 c.slot_of_vert-vert.result
     c.slot_of_vert-vert.ensures
 
 pub edge_number-requires : goal.edge_number-requires
 edge_number-requires c =
     let lists : NameLists = record { materials = c.self.inside.materials; libraries = c.self.inside.libraries } in
-    edge_live c.self.inside.store c.self.invariant.cycles.cycles c.slot_of_vert-vert.result.0 c.in-Some.e
-    (first_around c.self.inside.store c.self.inside.next lists c.self.invariant c.args.v c.slot_of_vert-vert.result
+    edge_live c.self.inside.store c.self.invariant.whole.cycles.cycles c.slot_of_vert-vert.result.0 c.in-Some.e
+    (first_around c.self.inside.store c.self.inside.next lists c.self.invariant.whole c.args.v c.slot_of_vert-vert.result
     c.slot_of_vert-vert.ensures c.in-Some.e c.in-Some.ensures)
 
 pub returns-in-None : goal.returns-in-None
 returns-in-None c =
     let lists : NameLists = record { materials = c.self.inside.materials; libraries = c.self.inside.libraries } in
     sym (ap (λ (x : Complex). is_bare x c.args.v) (ap now c.self.view_is))
-    ∙ none_bare c.self.inside.store c.self.inside.next lists c.self.invariant c.args.v c.slot_of_vert-vert.result
+    ∙ none_bare c.self.inside.store c.self.inside.next lists c.self.invariant.whole c.args.v c.slot_of_vert-vert.result
     c.slot_of_vert-vert.ensures c.in-None.ensures
 
 pub returns-in-Some : goal.returns-in-Some
@@ -43,5 +43,5 @@ returns-in-Some c =
     (edge_number st c.in-Some.e.0 ∙ c.edge_number.ensures) in
     sym (ap (λ (x : Complex). passes (has_end c.args.v) (at x.edges c.edge_number.result)) (ap now c.self.view_is))
     ∙ ap (λ (k : ℕ). passes (has_end c.args.v) (at (read_off st c.self.inside.next lists).edges k)) (sym named)
-    ∙ first_passes st c.self.inside.next lists c.self.invariant c.args.v c.slot_of_vert-vert.result
+    ∙ first_passes st c.self.inside.next lists c.self.invariant.whole c.args.v c.slot_of_vert-vert.result
     c.slot_of_vert-vert.ensures c.in-Some.e c.in-Some.ensures

@@ -20,7 +20,7 @@ slot_of_edge-edge-requires c = edge_of_name c.self.inside.store c.self.inside.ne
     (ap now c.self.view_is) c.requires
 
 pub faces_at_edge-requires-clause-live : goal.faces_at_edge-requires-clause-live
-faces_at_edge-requires-clause-live c = name_live c.self.invariant.records.named.edges c.args.e.0
+faces_at_edge-requires-clause-live c = name_live c.self.invariant.whole.records.named.edges c.args.e.0
     c.slot_of_edge-edge.result c.slot_of_edge-edge.ensures
 
 pub returns-clause-items : goal.returns-clause-items
@@ -29,9 +29,9 @@ returns-clause-items c =
     let lists : NameLists = record { materials = c.self.inside.materials; libraries = c.self.inside.libraries } in
     let items : List FaceName = map (λ (f : Slot). face_name st f.0) (faces_along st c.slot_of_edge-edge.result.0) in
     let edge = c.slot_of_edge-edge.result in
-    let once = faces_list st c.self.inside.next lists c.self.invariant (is_along c.args.e) (loops_along st edge.0)
-    (faces_along st edge.0) (along_live st c.self.invariant.cycles.cycles edge.0)
-    (along_lists st c.self.inside.next lists c.self.invariant c.args.e.0 edge c.slot_of_edge-edge.ensures)
+    let once = faces_list st c.self.inside.next lists c.self.invariant.whole (is_along c.args.e) (loops_along st edge.0)
+    (faces_along st edge.0) (along_live st c.self.invariant.whole.cycles.cycles edge.0)
+    (along_lists st c.self.inside.next lists c.self.invariant.whole c.args.e.0 edge c.slot_of_edge-edge.ensures)
     c.faces_at_edge.ensures.once c.faces_at_edge.ensures.all in
     let P = λ (x : Complex). ListsOnce items (faces_at_edge x c.args.e) in
     let Q = λ (fs : List FaceName). ListsOnce fs (faces_at_edge (now c.args.self.now) c.args.e) in

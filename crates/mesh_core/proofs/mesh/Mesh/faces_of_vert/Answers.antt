@@ -20,14 +20,14 @@ slot_of_vert-vert-requires c = vert_of_name c.self.inside.store c.self.inside.ne
     (ap now c.self.view_is) c.requires
 
 pub faces_at_vert-requires-clause-live : goal.faces_at_vert-requires-clause-live
-faces_at_vert-requires-clause-live c = name_live c.self.invariant.records.named.verts c.args.v.0
+faces_at_vert-requires-clause-live c = name_live c.self.invariant.whole.records.named.verts c.args.v.0
     c.slot_of_vert-vert.result c.slot_of_vert-vert.ensures
 
 pub returns-clause-items : goal.returns-clause-items
 returns-clause-items c =
     let st = c.self.inside.store in
     let n = c.self.inside.next in
-    let w = c.self.invariant in
+    let w = c.self.invariant.whole in
     let lists : NameLists = record { materials = c.self.inside.materials; libraries = c.self.inside.libraries } in
     let vert = c.slot_of_vert-vert.result in
     let items : List FaceName = map (λ (f : Slot). face_name st f.0) (faces_around st vert.0) in

@@ -9,6 +9,10 @@ use Rattle.mesh_records.specs.ReadOff.{NameLists}
 use Rattle.mesh_core.specs.Seen.{Seen, now, disks}
 use Rattle.mesh_records.proofs.ByName.{faces_all}
 use Rattle.mesh_records.proofs.Examples.{vert_of_name, edge_of_name, face_of_name}
+use Rattle.mesh_records.specs.Corners.{of_corners}
+use Rattle.mesh_records.specs.Room.{none_of_all}
+use Rattle.mesh_records.proofs.Places.{keeps_then, none_first}
+use Rattle.mesh_core.proofs.Kept.{mesh_kept}
 use Rattle.mesh_core.proofs.mesh.Mesh.insert_corner.Goals as goal
 
 pub returns-in_err-make_room-clause-err : goal.returns-in_err-make_room-clause-err
@@ -56,14 +60,24 @@ insert_corner-requires-clause-few c =
     omega arith
 
 pub invariant_of-self-2 : goal.invariant_of-self-2
-invariant_of-self-2 c = c.insert_corner.ensures.whole
+invariant_of-self-2 c =
+    let lists : NameLists = record { materials = c.self.inside.materials; libraries = c.self.inside.libraries } in
+    mesh_kept (of_corners 1) c.self.invariant c.insert_corner.ensures.inserts.whole
+    (keeps_then none_of_all (of_corners 1) (of_corners 1) c.self.inside.store c.make_room.new.st c.insert_corner.new.st
+    (none_first (of_corners 1)) c.make_room.ensures.places c.insert_corner.ensures.places)
+    (ap (λ (x : Complex). x.layers) (c.insert_corner.ensures.inserts.read lists)
+    ∙ c.make_room.ensures.stays.same.layers)
 
 pub returns-clause-now : goal.returns-clause-now
 returns-clause-now c =
     let lists : NameLists = record { materials = c.self.inside.materials; libraries = c.self.inside.libraries } in
-    c.insert_corner.ensures.read lists
+    c.insert_corner.ensures.inserts.read lists
     ∙ ap (λ (x : Complex). with_corner x c.args.f c.args.i c.args.corner.now)
     (c.make_room.ensures.stays.read lists ∙ ap now c.self.view_is)
 
 pub returns-clause-disks : goal.returns-clause-disks
-returns-clause-disks c = c.insert_corner.ensures.disks ∙ c.make_room.ensures.stays.disks ∙ ap disks c.self.view_is
+returns-clause-disks c = c.insert_corner.ensures.inserts.disks ∙ c.make_room.ensures.stays.disks ∙ ap disks c.self.view_is
+
+pub invariant_of-self : goal.invariant_of-self
+invariant_of-self c = mesh_kept none_of_all c.self.invariant c.make_room.ensures.stays.whole
+    c.make_room.ensures.places c.make_room.ensures.stays.same.layers

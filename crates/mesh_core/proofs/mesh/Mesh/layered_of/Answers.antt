@@ -1,6 +1,5 @@
-use Rattle.std.proofs.Common.{◌≡◌, sym, ap, ◌∙◌}
+use Rattle.std.proofs.Common.{ap}
 use Rattle.mesh_model.specs.Complex.{Complex}
-use Rattle.mesh_core.specs.Seen.{now}
 use Rattle.mesh_core.proofs.Layers.{only_its_layers, with_verts, with_edges, with_corners, with_faces}
 use Rattle.mesh_core.proofs.mesh.Mesh.layered_of.Goals as goal
 

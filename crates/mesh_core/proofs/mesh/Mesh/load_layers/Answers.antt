@@ -1,4 +1,4 @@
-use Rattle.std.proofs.Common.{◌≡◌, ℕ, List, take, sym, ap, ◌∙◌, arith}
+use Rattle.std.proofs.Common.{◌≡◌, List, take, sym, ap, ◌∙◌, arith}
 use Rattle.cust_data.specs.Layers.{Layer}
 use Rattle.mesh_model.specs.Complex.{Complex, layers_of}
 use Rattle.mesh_model.specs.Declaring.{with_layers_of, with_declared}

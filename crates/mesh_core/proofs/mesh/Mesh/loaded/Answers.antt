@@ -9,5 +9,8 @@ declare-requires c = let P =
     subst P (sym c.in_ok-made.ensures) c.requires.layers
 
 pub returns-clause-now : goal.returns-clause-now
-returns-clause-now c = c.keep_as_base.ensures.now ∙ c.in_ok-declare.ensures
+returns-clause-now c = c.mark.ensures.now ∙ c.in_ok-declare.ensures
     ∙ ap (λ (x : Complex). with_all_declared x c.args.layers.now) c.in_ok-made.ensures
+
+pub returns-clause-base : goal.returns-clause-base
+returns-clause-base c = c.in_ok-mark.ensures.base ∙ sym c.mark.ensures.now

@@ -17,14 +17,14 @@ slot_of_edge-edge-requires c = edge_of_name c.self.inside.store c.self.inside.ne
 
 pub corners_at_edge-requires-clause-live : goal.corners_at_edge-requires-clause-live
 corners_at_edge-requires-clause-live c =
-    name_live c.self.invariant.records.named.edges c.args.e.0 c.slot_of_edge-edge.result c.slot_of_edge-edge.ensures
+    name_live c.self.invariant.whole.records.named.edges c.args.e.0 c.slot_of_edge-edge.result c.slot_of_edge-edge.ensures
 
 pub returns-clause-items : goal.returns-clause-items
 returns-clause-items c =
     let st = c.self.inside.store in
     let lists : NameLists = record { materials = c.self.inside.materials; libraries = c.self.inside.libraries } in
     let items : List (FaceName × ℕ) = map (place_of st) (loops_along st c.slot_of_edge-edge.result.0) in
-    let once = (stands_for st c.self.inside.next lists c.self.invariant).radials c.args.e.0 c.slot_of_edge-edge.result
+    let once = (stands_for st c.self.inside.next lists c.self.invariant.whole).radials c.args.e.0 c.slot_of_edge-edge.result
     c.slot_of_edge-edge.ensures in
     let P = λ (x : Complex). ListsOnce items (corners_at_edge x c.args.e) in
     let Q = λ (ks : List (FaceName × ℕ)). ListsOnce ks (corners_at_edge (now c.args.self.now) c.args.e) in

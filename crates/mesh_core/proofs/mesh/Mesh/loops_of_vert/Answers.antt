@@ -18,14 +18,14 @@ slot_of_vert-vert-requires c = vert_of_name c.self.inside.store c.self.inside.ne
 
 pub corners_at_vert-requires-clause-live : goal.corners_at_vert-requires-clause-live
 corners_at_vert-requires-clause-live c =
-    name_live c.self.invariant.records.named.verts c.args.v.0 c.slot_of_vert-vert.result c.slot_of_vert-vert.ensures
+    name_live c.self.invariant.whole.records.named.verts c.args.v.0 c.slot_of_vert-vert.result c.slot_of_vert-vert.ensures
 
 pub returns-clause-items : goal.returns-clause-items
 returns-clause-items c =
     let st = c.self.inside.store in
     let lists : NameLists = record { materials = c.self.inside.materials; libraries = c.self.inside.libraries } in
     let items : List (FaceName × ℕ) = map (place_of st) (loops_around st c.slot_of_vert-vert.result.0) in
-    let once = around_corners st c.self.inside.next lists c.self.invariant c.args.v c.slot_of_vert-vert.result
+    let once = around_corners st c.self.inside.next lists c.self.invariant.whole c.args.v c.slot_of_vert-vert.result
     c.slot_of_vert-vert.ensures in
     let P = λ (x : Complex). ListsOnce items (corners_of_vert x c.args.v) in
     let Q = λ (ks : List (FaceName × ℕ)). ListsOnce ks (corners_of_vert (now c.args.self.now) c.args.v) in

@@ -15,6 +15,10 @@ use Rattle.mesh_records.proofs.Tables.{length_table}
 use Rattle.mesh_records.proofs.Elements.{name_live}
 use Rattle.mesh_records.proofs.Examples.{example_live, if_some_at, vert_of_name, edge_row_in}
 use Rattle.mesh_records.proofs.Edges.{AddsAnEdge, adds_an_edge, names_apart}
+use Rattle.mesh_records.specs.Room.{none_of_all, of_edges}
+use Rattle.mesh_model.specs.Complex.{Complex}
+use Rattle.mesh_records.proofs.Places.{keeps_then, keeps_any, none_first, keeps_edge}
+use Rattle.mesh_core.proofs.Kept.{mesh_kept, places_seen}
 use Rattle.mesh_core.proofs.mesh.Mesh.make_edge.Goals as goal
 
 pub returns-in_err-make_room-clause-err : goal.returns-in_err-make_room-clause-err
@@ -67,7 +71,13 @@ made c =
     (if_some_at L c.edge_like-like.result live)
 
 pub invariant_of-self-2 : goal.invariant_of-self-2
-invariant_of-self-2 c = (made c).whole
+invariant_of-self-2 c =
+    let lists : NameLists = record { materials = c.self.inside.materials; libraries = c.self.inside.libraries } in
+    let places = keeps_then none_of_all (of_edges 1) (of_edges 1) c.self.inside.store c.make_room.new.st c.put_edge.new.st
+    (none_first (of_edges 1)) c.make_room.ensures.places
+    (keeps_edge c.make_room.new.st c.put_edge.new.st _ _ _ _ c.put_edge.result c.put_edge.ensures) in
+    mesh_kept (of_edges 1) c.self.invariant (made c).whole places
+    (ap (λ (x : Complex). x.layers) ((made c).read lists) ∙ c.make_room.ensures.stays.same.layers)
 
 pub returns-clause-name : goal.returns-clause-name
 returns-clause-name c = ap (λ (m : Seen). m.next.edges) c.self.view_is
@@ -90,3 +100,18 @@ returns-clause-disks c =
     let e : EdgeName = record { 0 = c.self.inside.next.edges } in
     (made c).disks ∙ ap (λ (ds : List (List EdgeName)). with_last (with_last ds c.args.a.0 e) c.args.b.0 e)
     (c.make_room.ensures.stays.disks ∙ ap disks c.self.view_is)
+
+pub invariant_of-self : goal.invariant_of-self
+invariant_of-self c = mesh_kept none_of_all c.self.invariant c.make_room.ensures.stays.whole
+    c.make_room.ensures.places c.make_room.ensures.stays.same.layers
+
+pub returns-in_err-make_room-clause-places : goal.returns-in_err-make_room-clause-places
+returns-in_err-make_room-clause-places c = places_seen (of_edges 1) c.args.self.now
+    (ap (λ (m : Seen). m.stored) c.self.view_is) (keeps_any (of_edges 1) _ _ c.make_room.ensures.places)
+
+pub returns-clause-places : goal.returns-clause-places
+returns-clause-places c =
+    let places = keeps_then none_of_all (of_edges 1) (of_edges 1) c.self.inside.store c.make_room.new.st c.put_edge.new.st
+    (none_first (of_edges 1)) c.make_room.ensures.places
+    (keeps_edge c.make_room.new.st c.put_edge.new.st _ _ _ _ c.put_edge.result c.put_edge.ensures) in
+    places_seen (of_edges 1) c.args.self.now (ap (λ (m : Seen). m.stored) c.self.view_is) places

@@ -14,6 +14,10 @@ use Rattle.mesh_records.specs.Puts.{row_like}
 use Rattle.mesh_records.proofs.Tables.{length_table}
 use Rattle.mesh_records.proofs.Examples.{example_live, if_some_at, vert_row_in}
 use Rattle.mesh_records.proofs.Verts.{AddsAVert, adds_a_vert}
+use Rattle.mesh_records.specs.Room.{none_of_all, of_verts}
+use Rattle.mesh_model.specs.Complex.{Complex}
+use Rattle.mesh_records.proofs.Places.{keeps_then, keeps_any, none_first, keeps_vert}
+use Rattle.mesh_core.proofs.Kept.{mesh_kept, places_seen}
 use Rattle.mesh_core.proofs.mesh.Mesh.make_vert.Goals as goal
 
 pub returns-in_err-make_room-clause-err : goal.returns-in_err-make_room-clause-err
@@ -44,7 +48,13 @@ made c =
     c.put_vert.new.st (if_some_at L c.vert_like-like.result live) put
 
 pub invariant_of-self-2 : goal.invariant_of-self-2
-invariant_of-self-2 c = (made c).whole
+invariant_of-self-2 c =
+    let lists : NameLists = record { materials = c.self.inside.materials; libraries = c.self.inside.libraries } in
+    let places = keeps_then none_of_all (of_verts 1) (of_verts 1) c.self.inside.store c.make_room.new.st c.put_vert.new.st
+    (none_first (of_verts 1)) c.make_room.ensures.places
+    (keeps_vert c.make_room.new.st c.put_vert.new.st _ _ _ c.put_vert.result c.put_vert.ensures) in
+    mesh_kept (of_verts 1) c.self.invariant (made c).whole places
+    (ap (λ (x : Complex). x.layers) ((made c).read lists) ∙ c.make_room.ensures.stays.same.layers)
 
 pub returns-clause-name : goal.returns-clause-name
 returns-clause-name c = ap (λ (m : Seen). m.next.verts) c.self.view_is
@@ -66,3 +76,18 @@ returns-clause-now c =
 pub returns-clause-disks : goal.returns-clause-disks
 returns-clause-disks c = (made c).disks
     ∙ ap (λ (ds : List (List EdgeName)). ds ++ [] ∷ []) (c.make_room.ensures.stays.disks ∙ ap disks c.self.view_is)
+
+pub invariant_of-self : goal.invariant_of-self
+invariant_of-self c = mesh_kept none_of_all c.self.invariant c.make_room.ensures.stays.whole
+    c.make_room.ensures.places c.make_room.ensures.stays.same.layers
+
+pub returns-in_err-make_room-clause-places : goal.returns-in_err-make_room-clause-places
+returns-in_err-make_room-clause-places c = places_seen (of_verts 1) c.args.self.now
+    (ap (λ (m : Seen). m.stored) c.self.view_is) (keeps_any (of_verts 1) _ _ c.make_room.ensures.places)
+
+pub returns-clause-places : goal.returns-clause-places
+returns-clause-places c =
+    let places = keeps_then none_of_all (of_verts 1) (of_verts 1) c.self.inside.store c.make_room.new.st c.put_vert.new.st
+    (none_first (of_verts 1)) c.make_room.ensures.places
+    (keeps_vert c.make_room.new.st c.put_vert.new.st _ _ _ c.put_vert.result c.put_vert.ensures) in
+    places_seen (of_verts 1) c.args.self.now (ap (λ (m : Seen). m.stored) c.self.view_is) places

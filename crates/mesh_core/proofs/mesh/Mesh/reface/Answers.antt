@@ -18,7 +18,7 @@ use Rattle.mesh_model.specs.declared.records.FaceRec.{FaceRec}
 use Rattle.mesh_records.specs.Corners.{of_corners}
 use Rattle.mesh_records.specs.Frames.{StaysWhole}
 use Rattle.mesh_records.specs.ReadOff.{NameLists, face_at, read_off}
-use Rattle.mesh_records.specs.Room.{Amounts, UsesAtMost, room_in}
+use Rattle.mesh_records.specs.Room.{Amounts, UsesAtMost, none_of_all, room_in}
 use Rattle.mesh_records.specs.Takes.{LosesLoops}
 use Rattle.mesh_records.specs.Whole.{IsWhole, IsNearlyWhole}
 use Rattle.mesh_core.specs.Seen.{Seen, now, disks, room}
@@ -28,6 +28,8 @@ use Rattle.mesh_records.proofs.Elements.{name_live}
 use Rattle.mesh_records.proofs.Examples.{vert_of_name, edge_of_name, face_of_name}
 use Rattle.mesh_records.proofs.Kills.{corners_there}
 use Rattle.mesh_records.proofs.LoopCounts.{kept_count, many_now, nearly_of, corners_by}
+use Rattle.mesh_records.proofs.Places.{keeps_then, none_first, none_more, keeps_without_loops}
+use Rattle.mesh_core.proofs.Kept.{mesh_kept}
 use Rattle.mesh_core.proofs.mesh.Mesh.reface.Goals as goal
 
 pub slot_of_face-face-requires : goal.slot_of_face-face-requires
@@ -35,7 +37,7 @@ slot_of_face-face-requires c = face_of_name c.self.inside.store c.self.inside.ne
     (ap now c.self.view_is) c.requires.there
 
 pub face_len-before-requires : goal.face_len-before-requires
-face_len-before-requires c = name_live c.self.invariant.records.named.faces c.args.f.0 c.slot_of_face-face.result
+face_len-before-requires c = name_live c.self.invariant.whole.records.named.faces c.args.f.0 c.slot_of_face-face.result
     c.slot_of_face-face.ensures
 
 pub returns-in_err-make_room-clause-err : goal.returns-in_err-make_room-clause-err
@@ -49,7 +51,7 @@ returns-in_err-make_room-clause-err c =
 
 pub returns-in_err-make_room-clause-enough : goal.returns-in_err-make_room-clause-enough
 returns-in_err-make_room-clause-enough c = λ covers notes.
-    let sees = many_now c.self.inside.store c.self.inside.next c.self.invariant c.args.f.0 c.slot_of_face-face.result
+    let sees = many_now c.self.inside.store c.self.inside.next c.self.invariant.whole c.args.f.0 c.slot_of_face-face.result
     c.slot_of_face-face.ensures c.face_len-before.result c.face_len-before.ensures.len (now c.args.self.now)
     (ap now c.self.view_is) in
     let rooms = ap room c.self.view_is in
@@ -72,7 +74,7 @@ overflow_sub-self c =
     let stays = c.make_room.ensures.stays in
     let n = c.self.inside.next in
     let f = c.slot_of_face-face.result in
-    let count = kept_count c.self.inside.store c.make_room.new.st n c.self.invariant stays c.args.f.0 f
+    let count = kept_count c.self.inside.store c.make_room.new.st n c.self.invariant.whole stays c.args.f.0 f
     c.slot_of_face-face.ensures c.face_len-before.result c.face_len-before.ensures.len in
     let all = corners_there c.make_room.new.st n c.args.f.0 f stays.whole
     (stays.same.face_names c.args.f.0 ∙ c.slot_of_face-face.ensures) in
@@ -92,22 +94,22 @@ put_corners-requires-clause-whole c =
     let n = c.self.inside.next in
     let f = c.slot_of_face-face.result in
     let t = c.take_loops.ensures in
-    let count = kept_count c.self.inside.store c.make_room.new.st n c.self.invariant stays c.args.f.0 f
+    let count = kept_count c.self.inside.store c.make_room.new.st n c.self.invariant.whole stays c.args.f.0 f
     c.slot_of_face-face.ensures c.face_len-before.result c.face_len-before.ensures.len in
-    (emptied c.self.inside.store c.make_room.new.st c.take_loops.new.st n c.self.invariant stays c.args.f f
+    (emptied c.self.inside.store c.make_room.new.st c.take_loops.new.st n c.self.invariant.whole stays c.args.f f
     c.slot_of_face-face.ensures c.face_len-before.result count t.loses (t.whole n (nearly_of stays.whole)) t.empty).whole
 
 pub put_corners-requires-clause-few : goal.put_corners-requires-clause-few
 put_corners-requires-clause-few c =
     let stays = c.make_room.ensures.stays in
-    let sees = many_now c.self.inside.store c.self.inside.next c.self.invariant c.args.f.0 c.slot_of_face-face.result
+    let sees = many_now c.self.inside.store c.self.inside.next c.self.invariant.whole c.args.f.0 c.slot_of_face-face.result
     c.slot_of_face-face.ensures c.face_len-before.result c.face_len-before.ensures.len (now c.args.self.now)
     (ap now c.self.view_is) in
-    let count = kept_count c.self.inside.store c.make_room.new.st c.self.inside.next c.self.invariant stays c.args.f.0
+    let count = kept_count c.self.inside.store c.make_room.new.st c.self.inside.next c.self.invariant.whole stays c.args.f.0
     c.slot_of_face-face.result c.slot_of_face-face.ensures c.face_len-before.result c.face_len-before.ensures.len in
     let all = corners_there c.make_room.new.st c.self.inside.next c.args.f.0 c.slot_of_face-face.result stays.whole
     (stays.same.face_names c.args.f.0 ∙ c.slot_of_face-face.ensures) in
-    let sum = c.self.invariant.corners in
+    let sum = c.self.invariant.whole.corners in
     let same = ap (λ (x : Complex). corner_sum x.faces) (ap now c.self.view_is) in
     let few = c.requires.few in
     omega arith
@@ -117,7 +119,7 @@ put_corners-requires-clause-room c =
     let stays = c.make_room.ensures.stays in
     let t = c.take_loops.ensures in
     let f = c.slot_of_face-face.result in
-    let count = kept_count c.self.inside.store c.make_room.new.st c.self.inside.next c.self.invariant stays c.args.f.0 f
+    let count = kept_count c.self.inside.store c.make_room.new.st c.self.inside.next c.self.invariant.whole stays c.args.f.0 f
     c.slot_of_face-face.ensures c.face_len-before.result c.face_len-before.ensures.len in
     let spare = t.loses.spare in
     let none = ap (λ (rs : List Round). length rs) t.empty in
@@ -146,22 +148,33 @@ invariant_of-self-2 c =
     let n = c.self.inside.next in
     let f = c.slot_of_face-face.result in
     let t = c.take_loops.ensures in
-    let count = kept_count c.self.inside.store c.make_room.new.st n c.self.invariant stays c.args.f.0 f
+    let count = kept_count c.self.inside.store c.make_room.new.st n c.self.invariant.whole stays c.args.f.0 f
     c.slot_of_face-face.ensures c.face_len-before.result c.face_len-before.ensures.len in
-    let lost = emptied c.self.inside.store c.make_room.new.st c.take_loops.new.st n c.self.invariant stays c.args.f f
+    let lost = emptied c.self.inside.store c.make_room.new.st c.take_loops.new.st n c.self.invariant.whole stays c.args.f f
     c.slot_of_face-face.ensures c.face_len-before.result count t.loses (t.whole n (nearly_of stays.whole)) t.empty in
-    let put = c.put_corners.ensures in
+    let put = c.put_corners.ensures.appends in
     let there = ap (λ (xs : List (Option Slot)). is_some (slot_at xs c.args.f.0)) t.loses.face_names
     ∙ ap (λ (o : Option Slot). is_some o) (stays.same.face_names c.args.f.0 ∙ c.slot_of_face-face.ensures) in
     let own = corners_by c.take_loops.new.st c.put_corners.new.st _ _ lost.whole.nearly.records
     put.whole.nearly.records c.args.f (λ (ks : List CornerRec). ks ++ c.args.corners.now) put.read there in
     let long = length-append (corners_of (face_at c.take_loops.new.st c.args.f.0)) c.args.corners.now in
     let some = c.requires.some in
-    whole_again c.put_corners.new.st _ c.args.f put.whole (λ r is none.
+    let lists : NameLists = record { materials = c.self.inside.materials; libraries = c.self.inside.libraries } in
+    let gone = ap (λ (rs : List Round). length rs) t.empty in
+    let many = of_corners (length c.args.corners.now) in
+    mesh_kept many c.self.invariant
+    (whole_again c.put_corners.new.st _ c.args.f put.whole (λ r is none.
     let told = ap (λ (o : Option FaceRec). length (corners_of o)) (sym is) in
     let all = ap (λ (cs : List CornerRec). length cs) own in
     let empty = ap (λ (cs : List CornerRec). length cs) none in
-    absurd (omega arith))
+    absurd (omega arith)))
+    (keeps_then none_of_all many many c.self.inside.store c.take_loops.new.st c.put_corners.new.st (none_first many)
+    (keeps_then none_of_all none_of_all none_of_all c.self.inside.store c.make_room.new.st c.take_loops.new.st
+    (none_more none_of_all) c.make_room.ensures.places
+    (keeps_without_loops c.make_room.new.st c.take_loops.new.st f.0 t.loses (omega arith)))
+    c.put_corners.ensures.places)
+    (ap (λ (x : Complex). x.layers) (put.read lists) ∙ ap (λ (x : Complex). x.layers) (lost.read lists)
+    ∙ stays.same.layers)
 
 pub returns-clause-now : goal.returns-clause-now
 returns-clause-now c =
@@ -170,12 +183,12 @@ returns-clause-now c =
     let n = c.self.inside.next in
     let f = c.slot_of_face-face.result in
     let t = c.take_loops.ensures in
-    let count = kept_count c.self.inside.store c.make_room.new.st n c.self.invariant stays c.args.f.0 f
+    let count = kept_count c.self.inside.store c.make_room.new.st n c.self.invariant.whole stays c.args.f.0 f
     c.slot_of_face-face.ensures c.face_len-before.result c.face_len-before.ensures.len in
-    let lost = emptied c.self.inside.store c.make_room.new.st c.take_loops.new.st n c.self.invariant stays c.args.f f
+    let lost = emptied c.self.inside.store c.make_room.new.st c.take_loops.new.st n c.self.invariant.whole stays c.args.f f
     c.slot_of_face-face.ensures c.face_len-before.result count t.loses (t.whole n (nearly_of stays.whole)) t.empty in
     let behind = λ (ks : List CornerRec). ks ++ c.args.corners.now in
-    c.put_corners.ensures.read lists
+    c.put_corners.ensures.appends.read lists
     ∙ ap (λ (x : Complex). with_corners_by x c.args.f behind) (lost.read lists)
     ∙ corners_twice (read_off c.make_room.new.st n lists) c.args.f (λ (ks : List CornerRec). []) behind
     ∙ ap (λ (x : Complex). with_corners x c.args.f c.args.corners.now) (stays.read lists ∙ ap now c.self.view_is)
@@ -186,11 +199,11 @@ returns-clause-disks c =
     let n = c.self.inside.next in
     let f = c.slot_of_face-face.result in
     let t = c.take_loops.ensures in
-    let count = kept_count c.self.inside.store c.make_room.new.st n c.self.invariant stays c.args.f.0 f
+    let count = kept_count c.self.inside.store c.make_room.new.st n c.self.invariant.whole stays c.args.f.0 f
     c.slot_of_face-face.ensures c.face_len-before.result c.face_len-before.ensures.len in
-    let lost = emptied c.self.inside.store c.make_room.new.st c.take_loops.new.st n c.self.invariant stays c.args.f f
+    let lost = emptied c.self.inside.store c.make_room.new.st c.take_loops.new.st n c.self.invariant.whole stays c.args.f f
     c.slot_of_face-face.ensures c.face_len-before.result count t.loses (t.whole n (nearly_of stays.whole)) t.empty in
-    c.put_corners.ensures.disks ∙ lost.disks ∙ stays.disks ∙ ap disks c.self.view_is
+    c.put_corners.ensures.appends.disks ∙ lost.disks ∙ stays.disks ∙ ap disks c.self.view_is
 
 pub returns-clause-room : goal.returns-clause-room
 returns-clause-room c =
@@ -198,13 +211,13 @@ returns-clause-room c =
     let n = c.self.inside.next in
     let f = c.slot_of_face-face.result in
     let t = c.take_loops.ensures in
-    let count = kept_count c.self.inside.store c.make_room.new.st n c.self.invariant stays c.args.f.0 f
+    let count = kept_count c.self.inside.store c.make_room.new.st n c.self.invariant.whole stays c.args.f.0 f
     c.slot_of_face-face.ensures c.face_len-before.result c.face_len-before.ensures.len in
-    let lost = emptied c.self.inside.store c.make_room.new.st c.take_loops.new.st n c.self.invariant stays c.args.f f
+    let lost = emptied c.self.inside.store c.make_room.new.st c.take_loops.new.st n c.self.invariant.whole stays c.args.f f
     c.slot_of_face-face.ensures c.face_len-before.result count t.loses (t.whole n (nearly_of stays.whole)) t.empty in
-    let sees = many_now c.self.inside.store n c.self.invariant c.args.f.0 f c.slot_of_face-face.ensures
+    let sees = many_now c.self.inside.store n c.self.invariant.whole c.args.f.0 f c.slot_of_face-face.ensures
     c.face_len-before.result c.face_len-before.ensures.len (now c.args.self.now) (ap now c.self.view_is) in
-    let put = c.put_corners.ensures in
+    let put = c.put_corners.ensures.appends in
     let a = stays.room in
     let b = lost.room in
     let d = put.room in
@@ -229,3 +242,7 @@ returns-clause-room c =
       corners = omega arith;
       faces = omega arith;
     })
+
+pub invariant_of-self : goal.invariant_of-self
+invariant_of-self c = mesh_kept none_of_all c.self.invariant c.make_room.ensures.stays.whole
+    c.make_room.ensures.places c.make_room.ensures.stays.same.layers

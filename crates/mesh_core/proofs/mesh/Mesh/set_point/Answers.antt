@@ -8,6 +8,8 @@ use Rattle.mesh_records.proofs.Examples.{vert_of_name}
 use Rattle.mesh_records.proofs.Moved.{moves_vert}
 use Rattle.mesh_records.specs.Room.{Amounts, UsesAtMost, none_of_all, room_in}
 use Rattle.mesh_records.specs.Rewrites.{Rewrites}
+use Rattle.mesh_records.proofs.Places.{keeps_changed_vert}
+use Rattle.mesh_core.proofs.Kept.{mesh_kept}
 use Rattle.mesh_core.proofs.mesh.Mesh.set_point.Goals as goal
 
 pub slot_of_vert-vert-requires : goal.slot_of_vert-vert-requires
@@ -15,16 +17,20 @@ slot_of_vert-vert-requires c = vert_of_name c.self.inside.store c.self.inside.ne
     (ap now c.self.view_is) c.requires
 
 pub set_point-requires : goal.set_point-requires
-set_point-requires c = name_live c.self.invariant.records.named.verts c.args.v.0 c.slot_of_vert-vert.result
+set_point-requires c = name_live c.self.invariant.whole.records.named.verts c.args.v.0 c.slot_of_vert-vert.result
     c.slot_of_vert-vert.ensures
 
 moved : (c : goal.After-set_point) → Rewrites c.self.inside.store c.set_point.new.self c.self.inside.next
     (λ (x : Complex). with_point x c.args.v (point_of c.coordinates.result))
-moved c = moves_vert c.self.inside.store c.self.inside.next c.self.invariant c.args.v c.slot_of_vert-vert.result
+moved c = moves_vert c.self.inside.store c.self.inside.next c.self.invariant.whole c.args.v c.slot_of_vert-vert.result
     c.slot_of_vert-vert.ensures c.coordinates.result c.set_point.new.self c.set_point.ensures
 
 pub invariant_of-self : goal.invariant_of-self
-invariant_of-self c = (moved c).whole
+invariant_of-self c =
+    let lists : NameLists = record { materials = c.self.inside.materials; libraries = c.self.inside.libraries } in
+    mesh_kept none_of_all c.self.invariant (moved c).whole
+    (keeps_changed_vert c.self.inside.store c.set_point.new.self _ _ c.set_point.ensures)
+    (ap (λ (x : Complex). x.layers) ((moved c).read lists))
 
 pub returns-clause-now : goal.returns-clause-now
 returns-clause-now c =

@@ -14,7 +14,7 @@ pub returns-clause-items : goal.returns-clause-items
 returns-clause-items c =
     let st = c.self.inside.store in
     let n = c.self.inside.next in
-    let w = c.self.invariant in
+    let w = c.self.invariant.whole in
     let lists : NameLists = record { materials = c.self.inside.materials; libraries = c.self.inside.libraries } in
     let name = λ (k : ℕ). let x : VertName = record { 0 = k } in x in
     c.verts_by_name.ensures.items

@@ -18,17 +18,17 @@ slot_of_face-face-requires c = face_of_name c.self.inside.store c.self.inside.ne
     (ap now c.self.view_is) (corner_there (now c.args.self.now) c.args.f.0 c.args.i c.requires)
 
 pub loop_at-requires-clause-live : goal.loop_at-requires-clause-live
-loop_at-requires-clause-live c = name_live c.self.invariant.records.named.faces c.args.f.0 c.slot_of_face-face.result
+loop_at-requires-clause-live c = name_live c.self.invariant.whole.records.named.faces c.args.f.0 c.slot_of_face-face.result
     c.slot_of_face-face.ensures
 
 pub loop_at-requires-clause-within : goal.loop_at-requires-clause-within
 loop_at-requires-clause-within c =
     let lists : NameLists = record { materials = c.self.inside.materials; libraries = c.self.inside.libraries } in
-    loop_within c.self.inside.store c.self.inside.next lists c.self.invariant c.args.f.0 c.slot_of_face-face.result
+    loop_within c.self.inside.store c.self.inside.next lists c.self.invariant.whole c.args.f.0 c.slot_of_face-face.result
     c.slot_of_face-face.ensures (now c.args.self.now) (ap now c.self.view_is) c.args.i c.requires
 
 pub corner_at-requires-clause-live : goal.corner_at-requires-clause-live
-corner_at-requires-clause-live c = loop_there c.self.inside.store c.self.invariant.cycles.cycles
+corner_at-requires-clause-live c = loop_there c.self.inside.store c.self.invariant.whole.cycles.cycles
     c.slot_of_face-face.result.0 c.args.i c.loop_at.result c.loop_at.ensures
 
 pub returns : goal.returns
@@ -37,6 +37,6 @@ returns c =
     sym (ap (λ (x : Complex). option_map (λ (k : CornerRec). (k.vert, k.edge))
     (slice_get (corners_of (at x.faces c.args.f.0)) c.args.i)) (ap now c.self.view_is))
     ∙ ap (option_map (λ (k : CornerRec). (k.vert, k.edge)))
-    (corner_read c.self.inside.store c.self.inside.next lists c.self.invariant c.args.f.0 c.slot_of_face-face.result
+    (corner_read c.self.inside.store c.self.inside.next lists c.self.invariant.whole c.args.f.0 c.slot_of_face-face.result
     c.slot_of_face-face.ensures c.args.i c.loop_at.result c.loop_at.ensures)
     ∙ ap (λ (p : VertName × EdgeName). Some p) (sym c.corner_at.ensures)

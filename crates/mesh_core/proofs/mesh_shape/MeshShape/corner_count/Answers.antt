@@ -15,13 +15,13 @@ slot_of_face-face-requires c = face_of_name c.self.inside.store c.self.inside.ne
     (ap now c.self.view_is) c.requires
 
 pub face_len-requires : goal.face_len-requires
-face_len-requires c = name_live c.self.invariant.records.named.faces c.args.f.0 c.slot_of_face-face.result
+face_len-requires c = name_live c.self.invariant.whole.records.named.faces c.args.f.0 c.slot_of_face-face.result
     c.slot_of_face-face.ensures
 
 pub returns : goal.returns
 returns c =
     let st = c.self.inside.store in
-    let w = c.self.invariant in
+    let w = c.self.invariant.whole in
     let f = c.slot_of_face-face.result in
     let lists : NameLists = record { materials = c.self.inside.materials; libraries = c.self.inside.libraries } in
     let live = name_live w.records.named.faces c.args.f.0 f c.slot_of_face-face.ensures in

@@ -16,17 +16,17 @@ slot_of_face-face-requires c = face_of_name c.self.inside.store c.self.inside.ne
     (ap now c.self.view_is) c.requires.there
 
 pub rows_into-requires-clause-cycles : goal.rows_into-requires-clause-cycles
-rows_into-requires-clause-cycles c = c.self.invariant.cycles.cycles
+rows_into-requires-clause-cycles c = c.self.invariant.whole.cycles.cycles
 
 pub rows_into-requires-clause-live : goal.rows_into-requires-clause-live
-rows_into-requires-clause-live c = name_live c.self.invariant.records.named.faces c.args.f.0 c.slot_of_face-face.result
+rows_into-requires-clause-live c = name_live c.self.invariant.whole.records.named.faces c.args.f.0 c.slot_of_face-face.result
     c.slot_of_face-face.ensures
 
 pub rows_into-requires-clause-rows : goal.rows_into-requires-clause-rows
-rows_into-requires-clause-rows c = c.self.invariant.values.rows
+rows_into-requires-clause-rows c = c.self.invariant.whole.values.rows
 
 pub rows_into-requires-clause-table : goal.rows_into-requires-clause-table
-rows_into-requires-clause-table c = c.self.invariant.values.loops
+rows_into-requires-clause-table c = c.self.invariant.whole.values.loops
 
 pub rows_into-requires-clause-room : goal.rows_into-requires-clause-room
 rows_into-requires-clause-room c =
@@ -40,14 +40,14 @@ rows_into-requires-clause-room c =
       base = c.args.self.now.base;
       notes = c.args.self.now.notes;
     })) Corners)
-    (sym (loops_count c.self.inside.store c.self.inside.next lists c.self.invariant c.args.f.0
+    (sym (loops_count c.self.inside.store c.self.inside.next lists c.self.invariant.whole c.args.f.0
     c.slot_of_face-face.result c.slot_of_face-face.ensures))
 
 pub returns : goal.returns
 returns c =
     let lists : NameLists = record { materials = c.self.inside.materials; libraries = c.self.inside.libraries } in
     c.rows_into.ensures
-    ∙ all_rows_read c.self.inside.store c.self.inside.next lists c.self.invariant c.args.f.0 c.slot_of_face-face.result
+    ∙ all_rows_read c.self.inside.store c.self.inside.next lists c.self.invariant.whole c.args.f.0 c.slot_of_face-face.result
     c.slot_of_face-face.ensures
     ∙ ap (λ (x : Complex). flat_map (λ (k : CornerRec). k.vals) (corners_of (at x.faces c.args.f.0)))
     (ap now c.self.view_is)

@@ -19,18 +19,18 @@ slot_of_face-face-requires c = face_of_name c.self.inside.store c.self.inside.ne
 
 pub loop_at-corner-requires-clause-live : goal.loop_at-corner-requires-clause-live
 loop_at-corner-requires-clause-live c =
-    name_live c.self.invariant.records.named.faces c.args.f.0 c.slot_of_face-face.result c.slot_of_face-face.ensures
+    name_live c.self.invariant.whole.records.named.faces c.args.f.0 c.slot_of_face-face.result c.slot_of_face-face.ensures
 
 pub loop_at-corner-requires-clause-within : goal.loop_at-corner-requires-clause-within
 loop_at-corner-requires-clause-within c =
     let lists : NameLists = record { materials = c.self.inside.materials; libraries = c.self.inside.libraries } in
-    loop_within c.self.inside.store c.self.inside.next lists c.self.invariant c.args.f.0 c.slot_of_face-face.result
+    loop_within c.self.inside.store c.self.inside.next lists c.self.invariant.whole c.args.f.0 c.slot_of_face-face.result
     c.slot_of_face-face.ensures (now c.args.self.now) (ap now c.self.view_is) c.args.i c.requires.there
 
 pub value_at-requires-clause-live : goal.value_at-requires-clause-live
 value_at-requires-clause-live c =
     loop_live c.self.inside.store c.loop_at-corner.result.0
-    (loop_there c.self.inside.store c.self.invariant.cycles.cycles c.slot_of_face-face.result.0 c.args.i
+    (loop_there c.self.inside.store c.self.invariant.whole.cycles.cycles c.slot_of_face-face.result.0 c.args.i
     c.loop_at-corner.result c.loop_at-corner.ensures)
 
 pub value_at-requires-clause-within : goal.value_at-requires-clause-within
@@ -39,7 +39,7 @@ value_at-requires-clause-within c = let P =
 
 pub value_at-requires-clause-few : goal.value_at-requires-clause-few
 value_at-requires-clause-few c = few_numbers c.self.inside.store.values.loops.layers
-    c.self.invariant.values.loops.layers
+    c.self.invariant.whole.values.loops.layers
 
 pub returns : goal.returns
 returns c =
@@ -47,7 +47,7 @@ returns c =
     let lists : NameLists = record { materials = c.self.inside.materials; libraries = c.self.inside.libraries } in
     sym (ap (λ (x : Complex). option_map (λ (r : CornerRec). slice_get r.vals c.args.k)
     (slice_get (corners_of (at x.faces c.args.f.0)) c.args.i)) (ap now c.self.view_is))
-    ∙ corner_value_read c.self.inside.store c.self.inside.next lists c.self.invariant c.args.f.0
+    ∙ corner_value_read c.self.inside.store c.self.inside.next lists c.self.invariant.whole c.args.f.0
     c.slot_of_face-face.result c.slot_of_face-face.ensures c.args.i c.args.k c.loop_at-corner.result
     c.loop_at-corner.ensures
     ∙ ap (λ (o : Option ℤ). Some o) (c.value_at.ensures

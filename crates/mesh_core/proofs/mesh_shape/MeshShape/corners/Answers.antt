@@ -14,24 +14,24 @@ slot_of_face-face-requires c = face_of_name c.self.inside.store c.self.inside.ne
     (ap now c.self.view_is) c.requires.there
 
 pub corners_into-requires-clause-cycles : goal.corners_into-requires-clause-cycles
-corners_into-requires-clause-cycles c = c.self.invariant.cycles.cycles
+corners_into-requires-clause-cycles c = c.self.invariant.whole.cycles.cycles
 
 pub corners_into-requires-clause-live : goal.corners_into-requires-clause-live
-corners_into-requires-clause-live c = name_live c.self.invariant.records.named.faces c.args.f.0
+corners_into-requires-clause-live c = name_live c.self.invariant.whole.records.named.faces c.args.f.0
     c.slot_of_face-face.result c.slot_of_face-face.ensures
 
 pub corners_into-requires-clause-room : goal.corners_into-requires-clause-room
 corners_into-requires-clause-room c =
     let lists : NameLists = record { materials = c.self.inside.materials; libraries = c.self.inside.libraries } in
     c.requires.room ∙ sym (ap (λ (x : Complex). length (corners_of (at x.faces c.args.f.0))) (ap now c.self.view_is))
-    ∙ sym (loops_count c.self.inside.store c.self.inside.next lists c.self.invariant c.args.f.0
+    ∙ sym (loops_count c.self.inside.store c.self.inside.next lists c.self.invariant.whole c.args.f.0
     c.slot_of_face-face.result c.slot_of_face-face.ensures)
 
 pub returns : goal.returns
 returns c =
     let lists : NameLists = record { materials = c.self.inside.materials; libraries = c.self.inside.libraries } in
     c.corners_into.ensures
-    ∙ all_names_read c.self.inside.store c.self.inside.next lists c.self.invariant c.args.f.0 c.slot_of_face-face.result
+    ∙ all_names_read c.self.inside.store c.self.inside.next lists c.self.invariant.whole c.args.f.0 c.slot_of_face-face.result
     c.slot_of_face-face.ensures
     ∙ ap (λ (x : Complex). map (λ (k : CornerRec). (k.vert, k.edge)) (corners_of (at x.faces c.args.f.0)))
     (ap now c.self.view_is)

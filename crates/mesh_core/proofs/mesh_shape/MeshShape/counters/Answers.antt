@@ -16,7 +16,7 @@ returns-clause-counters c =
     let v = sym (length_table (vert_at st) n.verts) in
     let e = sym (length_table (edge_at st) n.edges) in
     let f = sym (length_table (face_at st) n.faces) in
-    let k = c.self.invariant.corners in
+    let k = c.self.invariant.whole.corners in
     let lists : NameLists = record { materials = c.self.inside.materials; libraries = c.self.inside.libraries } in
     let all : n ≡ counters_of (read_off st n lists) =
     λ i. record { verts = v i; edges = e i; faces = f i; corners = k i } in
@@ -26,4 +26,4 @@ pub returns-clause-linked : goal.returns-clause-linked
 returns-clause-linked c =
     let lists : NameLists = record { materials = c.self.inside.materials; libraries = c.self.inside.libraries } in
     let P = λ (m : Seen). IsLinked (now m) in
-    subst P c.self.view_is (whole_linked c.self.inside.store c.self.inside.next lists c.self.invariant)
+    subst P c.self.view_is (whole_linked c.self.inside.store c.self.inside.next lists c.self.invariant.whole)

@@ -18,7 +18,7 @@ slot_of_edge-edge-requires c = edge_of_name c.self.inside.store c.self.inside.ne
     (ap now c.self.view_is) c.requires.there
 
 pub value_at-requires-clause-live : goal.value_at-requires-clause-live
-value_at-requires-clause-live c = name_live c.self.invariant.records.named.edges c.args.e.0 c.slot_of_edge-edge.result
+value_at-requires-clause-live c = name_live c.self.invariant.whole.records.named.edges c.args.e.0 c.slot_of_edge-edge.result
     c.slot_of_edge-edge.ensures
 
 pub value_at-requires-clause-within : goal.value_at-requires-clause-within
@@ -27,7 +27,7 @@ value_at-requires-clause-within c = let P =
 
 pub value_at-requires-clause-few : goal.value_at-requires-clause-few
 value_at-requires-clause-few c = few_numbers c.self.inside.store.values.edges.layers
-    c.self.invariant.values.edges.layers
+    c.self.invariant.whole.values.edges.layers
 
 pub returns : goal.returns
 returns c =
@@ -35,7 +35,7 @@ returns c =
     let lists : NameLists = record { materials = c.self.inside.materials; libraries = c.self.inside.libraries } in
     sym (ap (λ (x : Complex). option_map (λ (r : EdgeRec). slice_get r.vals c.args.k) (at x.edges c.args.e.0))
     (ap now c.self.view_is))
-    ∙ edge_value_read c.self.inside.store c.self.inside.next lists c.self.invariant c.args.k c.args.e.0
+    ∙ edge_value_read c.self.inside.store c.self.inside.next lists c.self.invariant.whole c.args.k c.args.e.0
     c.slot_of_edge-edge.result c.slot_of_edge-edge.ensures
     ∙ ap (λ (o : Option ℤ). Some o) (c.value_at.ensures
     ∙ ap (λ (z : ℤ). Some z) (sym (to_z-of_z w64 c.value_at.result fits)))

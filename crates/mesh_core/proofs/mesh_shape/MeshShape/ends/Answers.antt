@@ -16,15 +16,15 @@ slot_of_edge-edge-requires c = edge_of_name c.self.inside.store c.self.inside.ne
     (ap now c.self.view_is) c.requires
 
 pub ends-requires : goal.ends-requires
-ends-requires c = name_live c.self.invariant.records.named.edges c.args.e.0 c.slot_of_edge-edge.result
+ends-requires c = name_live c.self.invariant.whole.records.named.edges c.args.e.0 c.slot_of_edge-edge.result
     c.slot_of_edge-edge.ensures
 
 pub vert_number-requires : goal.vert_number-requires
-vert_number-requires c = first_end c.self.inside.store c.self.invariant.records.linked c.slot_of_edge-edge.result
+vert_number-requires c = first_end c.self.inside.store c.self.invariant.whole.records.linked c.slot_of_edge-edge.result
     c.ends.result c.ends.ensures
 
 pub vert_number-requires-2 : goal.vert_number-requires-2
-vert_number-requires-2 c = second_end c.self.inside.store c.self.invariant.records.linked c.slot_of_edge-edge.result
+vert_number-requires-2 c = second_end c.self.inside.store c.self.invariant.whole.records.linked c.slot_of_edge-edge.result
     c.ends.result c.ends.ensures
 
 pub returns : goal.returns
@@ -32,6 +32,6 @@ returns c =
     let lists : NameLists = record { materials = c.self.inside.materials; libraries = c.self.inside.libraries } in
     sym (ap (λ (x : Complex). option_map (λ (r : EdgeRec). r.a ∷ r.b ∷ []) (at x.edges c.args.e.0))
     (ap now c.self.view_is))
-    ∙ ends_read c.self.inside.store c.self.inside.next lists c.self.invariant c.args.e.0 c.slot_of_edge-edge.result
+    ∙ ends_read c.self.inside.store c.self.inside.next lists c.self.invariant.whole c.args.e.0 c.slot_of_edge-edge.result
     c.ends.result c.vert_number.result c.vert_number-2.result
     c.slot_of_edge-edge.ensures c.ends.ensures c.vert_number.ensures c.vert_number-2.ensures

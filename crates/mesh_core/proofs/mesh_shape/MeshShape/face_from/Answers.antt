@@ -17,7 +17,7 @@ pub returns-in-None : goal.returns-in-None
 returns-in-None c =
     let st = c.self.inside.store in
     let lists : NameLists = record { materials = c.self.inside.materials; libraries = c.self.inside.libraries } in
-    let same = (stands_for st c.self.inside.next lists c.self.invariant).faces.same in
+    let same = (stands_for st c.self.inside.next lists c.self.invariant.whole).faces.same in
     sym (least_none st.faces.names (read_off st c.self.inside.next lists).faces same c.args.least
     c.in-None.ensures.slot)
     ∙ ap (λ (x : Complex). least_from x.faces c.args.least) (ap now c.self.view_is)
@@ -26,7 +26,7 @@ pub returns-in-Some : goal.returns-in-Some
 returns-in-Some c =
     let st = c.self.inside.store in
     let lists : NameLists = record { materials = c.self.inside.materials; libraries = c.self.inside.libraries } in
-    let same = (stands_for st c.self.inside.next lists c.self.invariant).faces.same in
+    let same = (stands_for st c.self.inside.next lists c.self.invariant.whole).faces.same in
     let l = c.in-Some.ensures.slot in
     sym c.face_number.ensures ∙ c.in-Some.ensures.named.live l.name c.in-Some.s l.here
     ∙ sym (least_some st.faces.names (read_off st c.self.inside.next lists).faces same c.args.least c.in-Some.s l)

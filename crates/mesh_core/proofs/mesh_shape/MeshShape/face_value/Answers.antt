@@ -18,7 +18,7 @@ slot_of_face-face-requires c = face_of_name c.self.inside.store c.self.inside.ne
     (ap now c.self.view_is) c.requires.there
 
 pub value_at-requires-clause-live : goal.value_at-requires-clause-live
-value_at-requires-clause-live c = name_live c.self.invariant.records.named.faces c.args.f.0 c.slot_of_face-face.result
+value_at-requires-clause-live c = name_live c.self.invariant.whole.records.named.faces c.args.f.0 c.slot_of_face-face.result
     c.slot_of_face-face.ensures
 
 pub value_at-requires-clause-within : goal.value_at-requires-clause-within
@@ -27,7 +27,7 @@ value_at-requires-clause-within c = let P =
 
 pub value_at-requires-clause-few : goal.value_at-requires-clause-few
 value_at-requires-clause-few c = few_numbers c.self.inside.store.values.faces.layers
-    c.self.invariant.values.faces.layers
+    c.self.invariant.whole.values.faces.layers
 
 pub returns : goal.returns
 returns c =
@@ -35,7 +35,7 @@ returns c =
     let lists : NameLists = record { materials = c.self.inside.materials; libraries = c.self.inside.libraries } in
     sym (ap (λ (x : Complex). option_map (λ (r : FaceRec). slice_get r.vals c.args.k) (at x.faces c.args.f.0))
     (ap now c.self.view_is))
-    ∙ face_value_read c.self.inside.store c.self.inside.next lists c.self.invariant c.args.k c.args.f.0
+    ∙ face_value_read c.self.inside.store c.self.inside.next lists c.self.invariant.whole c.args.k c.args.f.0
     c.slot_of_face-face.result c.slot_of_face-face.ensures
     ∙ ap (λ (o : Option ℤ). Some o) (c.value_at.ensures
     ∙ ap (λ (z : ℤ). Some z) (sym (to_z-of_z w64 c.value_at.result fits)))

@@ -11,7 +11,7 @@ pub returns-in-Vert : goal.returns-in-Vert
 returns-in-Vert c =
     let st = c.self.inside.store in
     let lists : NameLists = record { materials = c.self.inside.materials; libraries = c.self.inside.libraries } in
-    let same = (stands_for st c.self.inside.next lists c.self.invariant).verts.same in
+    let same = (stands_for st c.self.inside.next lists c.self.invariant.whole).verts.same in
     c.is_some.ensures ∙ ap (λ (o : Option Slot). is_some o) c.vert_slot.ensures.slot ∙ same c.in-Vert.v.0
     ∙ ap (λ (x : Complex). has x (Vert c.in-Vert.v)) (ap now c.self.view_is)
     ∙ ap (has (now c.args.self.now)) (sym c.in-Vert.is)
@@ -20,7 +20,7 @@ pub returns-in-Edge : goal.returns-in-Edge
 returns-in-Edge c =
     let st = c.self.inside.store in
     let lists : NameLists = record { materials = c.self.inside.materials; libraries = c.self.inside.libraries } in
-    let same = (stands_for st c.self.inside.next lists c.self.invariant).edges.same in
+    let same = (stands_for st c.self.inside.next lists c.self.invariant.whole).edges.same in
     c.is_some-in-Edge.ensures ∙ ap (λ (o : Option Slot). is_some o) c.edge_slot.ensures.slot ∙ same c.in-Edge.e.0
     ∙ ap (λ (x : Complex). has x (Edge c.in-Edge.e)) (ap now c.self.view_is)
     ∙ ap (has (now c.args.self.now)) (sym c.in-Edge.is)
@@ -29,7 +29,7 @@ pub returns-in-Face : goal.returns-in-Face
 returns-in-Face c =
     let st = c.self.inside.store in
     let lists : NameLists = record { materials = c.self.inside.materials; libraries = c.self.inside.libraries } in
-    let same = (stands_for st c.self.inside.next lists c.self.invariant).faces.same in
+    let same = (stands_for st c.self.inside.next lists c.self.invariant.whole).faces.same in
     c.is_some-in-Face.ensures ∙ ap (λ (o : Option Slot). is_some o) c.face_slot.ensures.slot ∙ same c.in-Face.f.0
     ∙ ap (λ (x : Complex). has x (Face c.in-Face.f)) (ap now c.self.view_is)
     ∙ ap (has (now c.args.self.now)) (sym c.in-Face.is)

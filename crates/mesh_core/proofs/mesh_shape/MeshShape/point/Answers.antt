@@ -16,13 +16,13 @@ slot_of_vert-vert-requires c = vert_of_name c.self.inside.store c.self.inside.ne
     (ap now c.self.view_is) c.requires
 
 pub point-requires : goal.point-requires
-point-requires c = name_live c.self.invariant.records.named.verts c.args.v.0 c.slot_of_vert-vert.result
+point-requires c = name_live c.self.invariant.whole.records.named.verts c.args.v.0 c.slot_of_vert-vert.result
     c.slot_of_vert-vert.ensures
 
 pub returns : goal.returns
 returns c =
     let lists : NameLists = record { materials = c.self.inside.materials; libraries = c.self.inside.libraries } in
     sym (ap (λ (x : Complex). option_map (λ (r : VertRec). r.point) (at x.verts c.args.v.0)) (ap now c.self.view_is))
-    ∙ point_read c.self.inside.store c.self.inside.next lists c.self.invariant c.args.v.0 c.slot_of_vert-vert.result
+    ∙ point_read c.self.inside.store c.self.inside.next lists c.self.invariant.whole c.args.v.0 c.slot_of_vert-vert.result
     c.point.result c.slot_of_vert-vert.ensures c.point.ensures
     ∙ ap (λ (p : Point). Some p) (sym c.point_of.ensures)

@@ -18,7 +18,7 @@ slot_of_vert-vert-requires c = vert_of_name c.self.inside.store c.self.inside.ne
     (ap now c.self.view_is) c.requires.there
 
 pub value_at-requires-clause-live : goal.value_at-requires-clause-live
-value_at-requires-clause-live c = name_live c.self.invariant.records.named.verts c.args.v.0 c.slot_of_vert-vert.result
+value_at-requires-clause-live c = name_live c.self.invariant.whole.records.named.verts c.args.v.0 c.slot_of_vert-vert.result
     c.slot_of_vert-vert.ensures
 
 pub value_at-requires-clause-within : goal.value_at-requires-clause-within
@@ -27,7 +27,7 @@ value_at-requires-clause-within c = let P =
 
 pub value_at-requires-clause-few : goal.value_at-requires-clause-few
 value_at-requires-clause-few c = few_numbers c.self.inside.store.values.verts.layers
-    c.self.invariant.values.verts.layers
+    c.self.invariant.whole.values.verts.layers
 
 pub returns : goal.returns
 returns c =
@@ -35,7 +35,7 @@ returns c =
     let lists : NameLists = record { materials = c.self.inside.materials; libraries = c.self.inside.libraries } in
     sym (ap (λ (x : Complex). option_map (λ (r : VertRec). slice_get r.vals c.args.k) (at x.verts c.args.v.0))
     (ap now c.self.view_is))
-    ∙ vert_value_read c.self.inside.store c.self.inside.next lists c.self.invariant c.args.k c.args.v.0
+    ∙ vert_value_read c.self.inside.store c.self.inside.next lists c.self.invariant.whole c.args.k c.args.v.0
     c.slot_of_vert-vert.result c.slot_of_vert-vert.ensures
     ∙ ap (λ (o : Option ℤ). Some o) (c.value_at.ensures
     ∙ ap (λ (z : ℤ). Some z) (sym (to_z-of_z w64 c.value_at.result fits)))
