@@ -1,6 +1,6 @@
 ghost use Rattle.std.specs.Prelude.{◌≡◌, IfOk, IsTrue};
 ghost use Rattle.mesh_model.specs.Elements.{no_elements};
-ghost use Rattle.mesh_model.specs.Naming.{are_rising};
+ghost use Rattle.mesh_model.specs.Naming.{are_rising, is_rising, vert_numbers, edge_numbers, face_numbers};
 
 use mesh_model::{EdgeName, FaceName, VertName};
 use sequence::{NoMemory, Sequence};
@@ -57,21 +57,24 @@ impl Buffer {
 
     /// The vertices, by rising name.
     pub fn verts(&self) -> &[VertName]
-        ensures { result.now ≡ self.now.verts }
+        ensures names { result.now ≡ self.now.verts }
+        ensures rising { IsTrue (is_rising (vert_numbers self.now.verts)) }
     {
         self.verts.as_slice()
     }
 
     /// The edges, by rising name.
     pub fn edges(&self) -> &[EdgeName]
-        ensures { result.now ≡ self.now.edges }
+        ensures names { result.now ≡ self.now.edges }
+        ensures rising { IsTrue (is_rising (edge_numbers self.now.edges)) }
     {
         self.edges.as_slice()
     }
 
     /// The faces, by rising name.
     pub fn faces(&self) -> &[FaceName]
-        ensures { result.now ≡ self.now.faces }
+        ensures names { result.now ≡ self.now.faces }
+        ensures rising { IsTrue (is_rising (face_numbers self.now.faces)) }
     {
         self.faces.as_slice()
     }

@@ -1,0 +1,14 @@
+pub mod Rising
+pub mod Named
+pub mod Killings
+pub mod KilledParts
+pub mod KilledVerts
+pub mod Movings
+pub mod Turnings
+pub mod NameLists
+pub mod Reached
+pub mod Baring
+pub mod Steps
+pub mod ManyParts
+pub mod SetParts
+pub mod Conditions

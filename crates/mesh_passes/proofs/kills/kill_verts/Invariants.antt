@@ -1,0 +1,10 @@
+use Rattle.std.proofs.Common.{◌≡◌, take}
+use Rattle.mesh_core.specs.Seen.{now}
+use Rattle.mesh_model.specs.Deleting.{without_verts}
+use Rattle.mesh_passes.proofs.kills.kill_verts.Given as goal
+
+abbrev pub invariant-loop-v : goal.invariant-loop-v
+invariant-loop-v l = record {
+  now : now l.mesh ≡ without_verts (now l.fn.mesh) (take l.v-index l.verts);
+  base : l.mesh.base ≡ l.fn.mesh.base;
+}

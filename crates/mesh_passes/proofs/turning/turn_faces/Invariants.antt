@@ -1,0 +1,10 @@
+use Rattle.std.proofs.Common.{◌≡◌, take}
+use Rattle.mesh_core.specs.Seen.{now}
+use Rattle.mesh_passes.specs.Turning.{turned_over}
+use Rattle.mesh_passes.proofs.turning.turn_faces.Given as goal
+
+abbrev pub invariant-loop-f : goal.invariant-loop-f
+invariant-loop-f l = record {
+  now : now l.mesh ≡ turned_over (now l.fn.mesh) (take l.f-index l.faces);
+  base : l.mesh.base ≡ l.fn.mesh.base;
+}

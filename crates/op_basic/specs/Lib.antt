@@ -1,0 +1,9 @@
+pub mod Making
+pub mod Setting
+pub mod Motions
+pub mod Turning
+pub mod Duplicating
+pub mod Deleting
+pub mod Rows
+pub mod Coordinates
+pub mod Searching
