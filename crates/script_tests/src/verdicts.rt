@@ -30,27 +30,39 @@ ok:undo = delete geom=v0\n\
 ok:layer = delete geom=all # so\n\
 ok:abcdefghijklmnopqrstuvwxyzabcdefghijklmnopqrstuvwxyzABCDEFGHI_0 = delete geom=v0\n\
 ok:delete geom=$abcdefghijklmnopqrstuvwxyzabcdefghijklmnopqrstuvwxyzABCDEFGHI_0\n\
-1 NotYet:undo\n\
-1 NotYet:redo # so\n\
-1 NotYet:undo x\n\
-1 NotYet:a = undo\n\
-1 NotYet:a = redo geom=v0\n\
+ok:undo\n\
+ok:redo # so\n\
+ok:undo#x|redo|undo|undo\n\
+ok:a = make_vert at=0,0,0|undo|b = translate verts=$a by=1,1,1\n\
+ok:redo = reverse faces=all\n\
+ok:delete geom=e0 context=edges\n\
+ok:delete geom=e0 context=edges_faces\n\
+ok:delete geom=f0 context=faces_only\n\
+ok:delete context=faces geom=f0\n\
+ok:delete geom=f0 context=faces_keep_boundary\n\
+ok:make_vert at=1,-2,3\n\
+ok:make_vert at=-0,007,-999999999999999999\n\
+ok:make_edge verts=v0,v1\n\
+ok:make_edge verts=v007,v7,v999999999\n\
+ok:translate verts=$a by=0,0,64\n\
+ok:translate by=-1,2,-3 verts=v0-v9,$b.verts,f0\n\
+ok:reverse faces=f0\n\
+1 MissingArgument:make_face\n\
+1 BadExpression:make_face verts=v0,v1,\n\
+1 MissingArgument:scale verts=all about=0,0,0 num=1\n\
+1 TwiceGiven:scale num=1 num=\n\
+1 BadNumber:scale verts=all about=0,0 num=1 den=1\n\
+1 BadNumber:scale den=0,1\n\
+1 UnknownWord:mirror verts=all axis=w about=0\n\
+1 MissingArgument:mirror verts=all axis=z\n\
+1 BadNumber:mirror about=z\n\
 1 NotYet:layer\n\
 1 NotYet:layer points\n\
 1 NotYet:layer verts w width=1 rule=mix\n\
-1 NotYet:delete geom=e0 context=edges\n\
-1 NotYet:delete geom=e0 context=edges_faces\n\
-1 NotYet:delete geom=f0 context=faces_only\n\
-1 NotYet:delete context=faces geom=\n\
-1 NotYet:delete geom=f0 context=faces_keep_boundary\n\
-1 NotYet:make_vert at=1,-2,3\n\
-1 NotYet:make_edge verts=v0,v1\n\
-1 NotYet:make_face verts=v0,v1,v2\n\
+ok:make_face verts=v0,v1,v2\n\
 1 NotYet:set values=1,-2,3,4 layer=x geom=all of=corners\n\
-1 NotYet:translate verts=$a by=0,0,64\n\
-1 NotYet:scale verts=all about=0,0,0 num=3 den=2\n\
-1 NotYet:mirror verts=all axis=y about=-0\n\
-1 NotYet:reverse faces=f0\n\
+ok:scale verts=all about=0,0,0 num=3 den=2\n\
+ok:mirror verts=all axis=y about=-0\n\
 1 NotYet:duplicate geom=all\n\
 1 NotYet:split geom=f0,v1\n\
 1 NotYet:connect verts=v0,v2\n\
@@ -69,7 +81,7 @@ ok:delete geom=$abcdefghijklmnopqrstuvwxyzabcdefghijklmnopqrstuvwxyzABCDEFGHI_0\
 1 NotYet:triangulate method=fan faces=all\n\
 1 NotYet:poke\n\
 1 NotYet:a = poke faces=\n\
-3 NotYet:|delete geom=v0|undo|x\x01\n\
+3 NotYet:|delete geom=v0|poke|x\x01\n\
 1 NotText:delete geom=v0\x01\n\
 1 NotText:# \x80\n\
 1 NotText:x \0\n\
@@ -94,15 +106,38 @@ ok:delete geom=$abcdefghijklmnopqrstuvwxyzabcdefghijklmnopqrstuvwxyzABCDEFGHI_0\
 1 UnknownWord:layers verts w width=1 rule=mix\n\
 1 UnknownWord:undo=\n\
 1 UnknownWord:a=delete geom=v0\n\
+1 UnknownWord:Undo\n\
+1 UnknownWord:undo = x\n\
+1 UnknownWord:= undo\n\
+1 UnknownWord:make_vert verts=v0\n\
+1 UnknownWord:make_edge v0,v1\n\
+1 UnknownWord:translate geom=all\n\
+1 UnknownWord:reverse geom=f0\n\
+1 UnknownWord:delete context=face geom=f0\n\
 1 MissingArgument:delete\n\
 1 MissingArgument:delete context=verts\n\
 1 MissingArgument:a = delete # geom=v0\n\
 1 MissingArgument:a =\n\
 1 MissingArgument:undo =\n\
 1 MissingArgument:layer =\n\
+1 MissingArgument:make_vert\n\
+1 MissingArgument:make_edge\n\
+1 MissingArgument:translate verts=all\n\
+1 MissingArgument:translate by=0,0,0\n\
+1 MissingArgument:a = reverse\n\
 1 TwiceGiven:delete geom=v0 geom=v1\n\
 1 TwiceGiven:delete geom=v0 geom=\n\
 1 TwiceGiven:delete context=verts context=faces geom=v0\n\
+1 TwiceGiven:make_vert at=0,0,0 at=\n\
+1 TwiceGiven:translate by=0,0,0 by=x\n\
+1 TwiceGiven:reverse faces=f0 faces=f0\n\
+1 BadNumber:make_vert at=\n\
+1 BadNumber:make_vert at=1,2\n\
+1 BadNumber:make_vert at=1,2,3,4\n\
+1 BadNumber:make_vert at=1, 2,3\n\
+1 BadNumber:make_vert at=1,2,+3\n\
+1 BadNumber:make_vert at=1,2,1234567890123456789\n\
+1 BadNumber:translate by=0,0,- verts=\n\
 1 BadExpression:delete geom=\n\
 1 BadExpression:delete geom= x\n\
 1 BadExpression:delete geom=v\n\
@@ -126,6 +161,21 @@ ok:delete geom=$abcdefghijklmnopqrstuvwxyzabcdefghijklmnopqrstuvwxyzABCDEFGHI_0\
 1 BadExpression:delete geom=all.x\n\
 1 BadExpression:delete geom=all.corners\n\
 1 BadExpression:delete geom=v0:v1\n\
+1 BadExpression:delete context=faces geom=\n\
+1 BadExpression:make_edge verts=\n\
+1 BadExpression:make_edge verts=v0,e1\n\
+1 BadExpression:make_edge verts=v0-v1\n\
+1 BadExpression:make_edge verts=all\n\
+1 BadExpression:make_edge verts=$a\n\
+1 BadExpression:translate verts= by=0,0\n\
+1 BadExpression:reverse faces=f\n\
+1 BadExpression:undo x\n\
+1 BadExpression:undo undo\n\
+1 BadExpression:undo layer verts\n\
+1 BadExpression:redo =x\n\
+1 BadExpression:a = undo\n\
+1 BadExpression:a = redo geom=v0\n\
+1 BadExpression:redo = redo\n\
 1 BadExpression:= = x\n\
 1 BadExpression:1a = foo\n\
 1 BadExpression:_a = delete geom=v0\n\
@@ -135,7 +185,9 @@ ok:delete geom=$abcdefghijklmnopqrstuvwxyzabcdefghijklmnopqrstuvwxyzABCDEFGHI_0\
 2 Rebound:a = delete geom=v0|a = delete geom=v1\n\
 2 Rebound:a = delete geom=v0|a =\n\
 4 Rebound:a = delete geom=v0|b = delete geom=v0||b = undo\n\
+3 Rebound:a = make_vert at=0,0,0|undo|a = make_vert at=0,0,0\n\
 2 LateLayer:delete geom=v0|layer\n\
+2 LateLayer:undo|layer verts w width=1 rule=mix\n\
 3 LateLayer:delete geom=v0|# so|layer points\n\
 2 UnknownWord:delete geom=v0|Delete|delete\n\
 2 UnknownWord:a = delete geom=v0|b = a";
@@ -185,7 +237,7 @@ fn first_other(alloc: Global, rows: &[&[u8]]) -> Result<usize, NoMemory> {
 #[test]
 fn texts_have_their_verdicts(rt: HostRuntime) -> Result<(), Fail> {
     let rows = lines(rt.alloc(), ROWS)?;
-    confirm(&rt, "there are rows", rows.len() > 120);
+    confirm(&rt, "there are rows", rows.len() > 160);
     let other = first_other(rt.alloc(), &rows)?;
     confirm(&rt, "each row holds", other == rows.len());
     Ok(())

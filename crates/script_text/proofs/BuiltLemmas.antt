@@ -1,45 +1,32 @@
 -- Each command of a script is one that a session can do.
-use Rattle.std.proofs.Common.{◌≡◌, ℕ, ◌+◌, Bool, true, false, cond, not, ◌&&◌, List, [], ◌∷◌, ◌++◌, refl}
+use Rattle.std.proofs.Common.{◌≡◌, ℕ, ◌+◌, Bool, true, false, cond, not, ◌&&◌, ◌||◌, List, [], ◌∷◌, ◌++◌, refl}
 use Rattle.std.proofs.Common.{Option, Some, None, Result, Ok, Err, is_some, leb, length, ◌==◌, codes}
 use Rattle.std.specs.Prelude.{option_and_then}
 use Rattle.std.proofs.lemmas.Bool.{false≢true}
 use Rattle.std.specs.List.{list_all}
-use Rattle.text_words.specs.Text.{is_text, lines, words, cut, integer}
-use Rattle.text_words.specs.Outcome.{◌>>=◌, ok_or, steps}
-use Rattle.op_slots.specs.declared.op.Context.{Context}
-use Rattle.op_slots.specs.declared.op.Context.TheVariants as context
+use Rattle.text_words.specs.Text.{is_text, lines, words}
+use Rattle.text_words.specs.Outcome.{◌>>=◌, ok_or}
 use Rattle.op_slots.specs.declared.op.Op.{Op}
 use Rattle.op_slots.specs.declared.op.Op.TheVariants as op
-use Rattle.op_slots.specs.declared.term.Term.{Term}
-use Rattle.op_slots.specs.declared.command.What.TheVariants.{Run}
+use Rattle.op_slots.specs.declared.command.What.{What}
+use Rattle.op_slots.specs.declared.command.What.TheVariants.{Run, Undo, Redo}
 use Rattle.op_slots.specs.declared.command.Command.{Command}
-use Rattle.script_text.specs.declared.arguments.Argument.{Argument}
-use Rattle.script_text.specs.declared.arguments.Argument.TheVariants as argument
 use Rattle.script_text.specs.declared.arguments.Arguments.{Arguments}
-use Rattle.script_text.specs.declared.arguments.Form.{Form}
-use Rattle.script_text.specs.declared.arguments.Form.TheVariants as form
-use Rattle.script_text.specs.declared.arguments.Place.{Place}
-use Rattle.script_text.specs.declared.arguments.Place.TheVariants.{First, Second, Third, Fourth}
 use Rattle.script_text.specs.declared.script.Script.{Script}
 use Rattle.script_text.specs.declared.table.OpName.{OpName}
-use Rattle.script_text.specs.declared.table.OpName.TheVariants.{Delete}
-use Rattle.script_text.specs.declared.table.Row.{Row}
+use Rattle.script_text.specs.declared.table.OpName.TheVariants.{MakeVert, MakeEdge, Mirror, Scale, MakeFace, Translate, Reverse, Delete}
 use Rattle.script_text.specs.declared.table.Row.TheVariants.{Operator}
 use Rattle.script_text.specs.declared.fault.ScriptWhy.{ScriptWhy}
-use Rattle.script_text.specs.declared.fault.ScriptWhy.TheVariants.{NotYet, MissingArgument, UnknownWord, BadNumber, BadExpression}
+use Rattle.script_text.specs.declared.fault.ScriptWhy.TheVariants.{NotYet, MissingArgument, UnknownWord}
 use Rattle.script_text.specs.declared.fault.ScriptRefusal.{ScriptRefusal}
-use Rattle.script_text.specs.Arguments.{nothing, given, with, as_context, as_geom}
-use Rattle.script_text.specs.Built.{is_context_built, is_op_built, is_built, are_built}
-use Rattle.script_text.specs.Commands.{operator_of, what_of, bound_name, command}
+use Rattle.script_text.specs.Arguments.{as_point, as_verts, as_geom, as_context, as_axis, as_int}
+use Rattle.script_text.specs.Built.{is_op_built, is_built, are_built}
+use Rattle.script_text.specs.Commands.{past, operator_of, what_of, bound_name, command}
 use Rattle.script_text.specs.Laws.{passes}
 use Rattle.script_text.specs.Lines.{plain, statement, uncommented, is_text_byte, line}
-use Rattle.script_text.specs.Rowed.{put, put_at, pair, argument_cut, argument, arguments_of}
+use Rattle.script_text.specs.Rowed.{arguments_of}
 use Rattle.script_text.specs.Script.{empty, at_line, script_of_lines, script_of}
-use Rattle.script_text.specs.Table.{op_named, is_now, row_key, op_of}
-use Rattle.script_text.specs.Maps.{map_arg}
-use Rattle.script_text.specs.Terms.{geom, verts}
-use Rattle.script_text.specs.Values.{point, ints, kind_of, rule_of, axis_of, method_of, context_of, layer_name}
-use Rattle.script_text.specs.Values.{context_built, value_of}
+use Rattle.script_text.specs.Table.{op_named, is_now, op_of}
 
 -- ---- OUTCOMES
 
@@ -73,102 +60,38 @@ right : (a b : Bool) → (a && b) ≡ true → b ≡ true
 right true b both = both
 right false b both = absurd (false≢true both)
 
--- ---- ARGUMENTS
-
--- a context is one that can be done
-abbrev is_fine : Option Argument → Bool
-is_fine (Some (argument.Context c)) = is_context_built c
-is_fine _ = true
-
-abbrev is_fine_value : Argument → Bool
-is_fine_value x = is_fine (Some x)
-
-abbrev are_fine : Arguments → Bool
-are_fine a = is_fine a.first && (is_fine a.second && (is_fine a.third && is_fine a.fourth))
-
-with_fine : (place : Place) (x : Argument) (a : Arguments) → is_fine (Some x) ≡ true → are_fine a ≡ true
-    → are_fine (with place x a) ≡ true
-with_fine First x a fine were = and (is_fine (Some x)) _ fine (right (is_fine a.first) _ were)
-with_fine Second x a fine were =
-    and (is_fine a.first) _ (left (is_fine a.first) _ were)
-    (and (is_fine (Some x)) _ fine (right (is_fine a.second) _ (right (is_fine a.first) _ were)))
-with_fine Third x a fine were =
-    let rest = right (is_fine a.first) _ were in
-    and (is_fine a.first) _ (left (is_fine a.first) _ were)
-    (and (is_fine a.second) _ (left (is_fine a.second) _ rest)
-    (and (is_fine (Some x)) _ fine (right (is_fine a.third) _ (right (is_fine a.second) _ rest))))
-with_fine Fourth x a fine were =
-    let rest = right (is_fine a.first) _ were in
-    let last = right (is_fine a.second) _ rest in
-    and (is_fine a.first) _ (left (is_fine a.first) _ were)
-    (and (is_fine a.second) _ (left (is_fine a.second) _ rest)
-    (and (is_fine a.third) _ (left (is_fine a.third) _ last) fine))
-
-context_fine : (c : Context) → passes is_fine_value (context_built c) ≡ true
-context_fine context.Verts = refl
-context_fine _ = refl
-
-value_fine : (f : Form) (word : List ℕ) → passes is_fine_value (value_of f word) ≡ true
-value_fine form.Context word = passes_any is_fine_value (ok_or (context_of word) UnknownWord) context_built context_fine
-value_fine form.Int word = passes_any is_fine_value (ok_or (integer 18 word) BadNumber) (λ x. Ok (argument.Int x)) (λ _. refl)
-value_fine form.Point word = passes_any is_fine_value (ok_or (point word) BadNumber) (λ x. Ok (argument.Point x)) (λ _. refl)
-value_fine form.Ints word = passes_any is_fine_value (ok_or (ints word) BadNumber) (λ x. Ok (argument.Ints x)) (λ _. refl)
-value_fine form.Kind word = passes_any is_fine_value (ok_or (kind_of word) UnknownWord) (λ x. Ok (argument.Kind x)) (λ _. refl)
-value_fine form.Rule word = passes_any is_fine_value (ok_or (rule_of word) UnknownWord) (λ x. Ok (argument.Rule x)) (λ _. refl)
-value_fine form.Axis word = passes_any is_fine_value (ok_or (axis_of word) UnknownWord) (λ x. Ok (argument.Axis x)) (λ _. refl)
-value_fine form.Method word = passes_any is_fine_value (ok_or (method_of word) UnknownWord) (λ x. Ok (argument.Method x)) (λ _. refl)
-value_fine form.Name word = passes_any is_fine_value (ok_or (layer_name word) BadExpression) (λ x. Ok (argument.Name x)) (λ _. refl)
-value_fine form.Geom word = passes_any is_fine_value (ok_or (geom word) BadExpression) (λ x. Ok (argument.Geom x)) (λ _. refl)
-value_fine form.Verts word = passes_any is_fine_value (ok_or (verts word) BadExpression) (λ x. Ok (argument.Verts x)) (λ _. refl)
-value_fine form.Map word = passes_any is_fine_value (map_arg word) (λ x. Ok (argument.Map x)) (λ _. refl)
-
-put_fine : (place : Place) (f : Form) (value : List ℕ) (a : Arguments) → are_fine a ≡ true
-    → passes are_fine (put place f value a) ≡ true
-put_fine place f value a were =
-    either are_fine (given place a) _ _ refl
-    (passes_on is_fine_value are_fine (value_of f value) (λ x. Ok (with place x a)) (value_fine f value)
-    (λ x fine. with_fine place x a fine were))
-
-pair_fine : (row : Row) (key value : List ℕ) (a : Arguments) → are_fine a ≡ true
-    → passes are_fine (pair row key value a) ≡ true
-pair_fine row key value a were =
-    passes_any are_fine (ok_or (row_key row key) UnknownWord) (λ place. put_at place value a)
-    (λ (place, f). put_fine place f value a were)
-
-cut_fine : (row : Row) (o : Option (List ℕ × List ℕ)) (a : Arguments) → are_fine a ≡ true
-    → passes are_fine (argument_cut row o a) ≡ true
-cut_fine row None a were = refl
-cut_fine row (Some (key, value)) a were = pair_fine row key value a were
-
-argument_fine : (row : Row) (word : List ℕ) (a : Arguments) → are_fine a ≡ true
-    → passes are_fine (argument row word a) ≡ true
-argument_fine row word a were = cut_fine row (cut 61 word) a were
-
-steps_fine : (row : Row) (ws : List (List ℕ)) (a : Arguments) → are_fine a ≡ true
-    → passes are_fine (steps (argument row) a ws) ≡ true
-steps_fine row [] a were = were
-steps_fine row (w ∷ ws) a were =
-    passes_on are_fine are_fine (argument row w a) (λ b. steps (argument row) b ws) (argument_fine row w a were)
-    (λ b fine. steps_fine row ws b fine)
-
 -- ---- COMMANDS
 
 abbrev is_fine_op : Option Op → Bool
 is_fine_op (Some o) = is_op_built o
 is_fine_op None = true
 
--- the context of a deletion
-delete_by : (geom : Option (List Term)) (o : Option Argument) → is_fine o ≡ true
-    → is_fine_op (option_and_then (λ g. option_and_then (λ c. Some (op.Delete g c)) (as_context o)) geom) ≡ true
-delete_by None o fine = refl
-delete_by (Some g) (Some (argument.Context c)) fine = fine
-delete_by (Some g) None fine = refl
-delete_by (Some g) (Some _) fine = refl
+-- an operator of one more argument, which may not be there
+with_one : {A : Type 0} (o : Option A) (f : A → Option Op) → ((x : A) → is_fine_op (f x) ≡ true)
+    → is_fine_op (option_and_then f o) ≡ true
+with_one None f fine = refl
+with_one (Some x) f fine = fine x
 
-op_fine : (name : OpName) (a : Arguments) → is_now name ≡ true → are_fine a ≡ true → is_fine_op (op_of name a) ≡ true
-op_fine Delete a done fine =
-    delete_by (as_geom a.first) a.second (left (is_fine a.second) _ (right (is_fine a.first) _ fine))
-op_fine _ a done fine = absurd (false≢true done)
+op_fine : (name : OpName) (a : Arguments) → is_now name ≡ true → is_fine_op (op_of name a) ≡ true
+op_fine MakeVert a done = with_one (as_point a.first) (λ at. Some (op.MakeVert at)) (λ _. refl)
+op_fine MakeEdge a done = with_one (as_verts a.first) (λ vs. Some (op.MakeEdge vs)) (λ _. refl)
+op_fine MakeFace a done = with_one (as_verts a.first) (λ vs. Some (op.MakeFace vs)) (λ _. refl)
+op_fine Translate a done =
+    with_one (as_geom a.first) _
+    (λ vs. with_one (as_point a.second) (λ by. Some (op.Translate vs by)) (λ _. refl))
+op_fine Scale a done =
+    with_one (as_geom a.first) _
+    (λ vs. with_one (as_point a.second) _
+    (λ about. with_one (as_int a.third) _
+    (λ num. with_one (as_int a.fourth) (λ den. Some (op.Scale vs about num den)) (λ _. refl))))
+op_fine Mirror a done =
+    with_one (as_geom a.first) _
+    (λ vs. with_one (as_axis a.second) _
+    (λ axis. with_one (as_int a.third) (λ about. Some (op.Mirror vs axis about)) (λ _. refl)))
+op_fine Reverse a done = with_one (as_geom a.first) (λ fs. Some (op.Reverse fs)) (λ _. refl)
+op_fine Delete a done =
+    with_one (as_geom a.first) _ (λ g. with_one (as_context a.second) (λ c. Some (op.Delete g c)) (λ _. refl))
+op_fine _ a done = absurd (false≢true done)
 
 made : (o : Option Op) → is_fine_op o ≡ true
     → passes is_built (ok_or o MissingArgument >>= (λ x. Ok (Run x))) ≡ true
@@ -185,14 +108,18 @@ named_now : (o : Option OpName)
 named_now None = refl
 named_now (Some name) = now_or_not name (is_now name) refl
 
+past_built : (what : What) (bound : Bool) (ws : List (List ℕ)) → is_built what ≡ true
+    → passes is_built (past what bound ws) ≡ true
+past_built what bound ws is = either is_built (bound || not (length ws == 0)) _ _ refl is
+
 words_built : (bound : Bool) (ws : List (List ℕ)) → passes is_built (what_of bound ws) ≡ true
 words_built bound [] = refl
 words_built bound (w ∷ ws) =
-    either is_built (is_text (codes "undo") w) _ _ refl
-    (either is_built (is_text (codes "redo") w) _ _ refl
+    either is_built (is_text (codes "undo") w) _ _ (past_built Undo bound ws refl)
+    (either is_built (is_text (codes "redo") w) _ _ (past_built Redo bound ws refl)
     (passes_on is_now is_built (operator_of w) _ (named_now (op_named w))
-    (λ name done. passes_on are_fine is_built (arguments_of (Operator name) ws) _ (steps_fine (Operator name) ws nothing refl)
-    (λ a fine. made (op_of name a) (op_fine name a done fine)))))
+    (λ name done. passes_any is_built (arguments_of (Operator name) ws) _
+    (λ a. made (op_of name a) (op_fine name a done)))))
 
 -- ---- SCRIPTS
 

@@ -1,8 +1,6 @@
--- What a session can do so far, beside the operators, of which their table tells.
+-- What a session can do so far, beside what the table of operators tells.
 use Rattle.std.specs.Prelude.{Bool, true, false, List}
 use Rattle.std.specs.List.{list_all}
-use Rattle.op_slots.specs.declared.op.Context.{Context}
-use Rattle.op_slots.specs.declared.op.Context.TheVariants.{Verts}
 use Rattle.op_slots.specs.declared.op.Op.{Op}
 use Rattle.op_slots.specs.declared.op.Op.TheVariants as op
 use Rattle.op_slots.specs.declared.command.Command.{Command}
@@ -13,26 +11,23 @@ use Rattle.op_slots.specs.declared.command.What.TheVariants.{Run, Undo, Redo}
 abbrev pub layers : Bool
 layers = false
 
-abbrev pub undo : Bool
-undo = false
-
-abbrev pub redo : Bool
-redo = false
-
--- the contexts of delete
-abbrev pub is_context_built : Context → Bool
-is_context_built Verts = true
-is_context_built _ = false
-
--- so what a session can do: to delete vertices
+-- the operators that a session can do
 abbrev pub is_op_built : Op → Bool
-is_op_built (op.Delete geom context) = is_context_built context
+is_op_built (op.MakeVert at) = true
+is_op_built (op.MakeEdge verts) = true
+is_op_built (op.MakeFace verts) = true
+is_op_built (op.Translate verts by) = true
+is_op_built (op.Scale verts about num den) = true
+is_op_built (op.Mirror verts axis about) = true
+is_op_built (op.Reverse faces) = true
+is_op_built (op.Delete geom context) = true
 is_op_built _ = false
 
+-- so what it can do: these operators, and each way through its past
 abbrev pub is_built : What → Bool
 is_built (Run o) = is_op_built o
-is_built Undo = undo
-is_built Redo = redo
+is_built Undo = true
+is_built Redo = true
 
 -- each of some commands
 abbrev pub are_built : List Command → Bool

@@ -16,13 +16,11 @@ use Rattle.text_words.specs.Outcome.{◌>>=◌, ok_or}
 use Rattle.script_text.specs.declared.table.OpName.{OpName}
 use Rattle.script_text.specs.Table.{op_named, is_now, op_of}
 use Rattle.script_text.specs.declared.fault.ScriptWhy.TheVariants.{NotYet}
-use Rattle.script_text.specs.Built.{undo, redo}
 use Rattle.script_text.specs.Rowed.{arguments_of}
 
--- `undo` or `redo`: a session can do it so far, it is bound to no name, and no word follows it
-abbrev pub past : Bool → What → Bool → List (List ℕ) → Result What ScriptWhy
-past done what bound rest =
-    if not done then Err NotYet else if bound || not (length rest == 0) then Err BadExpression else Ok what
+-- `undo` or `redo`: it is bound to no name, and no word follows it
+abbrev pub past : What → Bool → List (List ℕ) → Result What ScriptWhy
+past what bound rest = if bound || not (length rest == 0) then Err BadExpression else Ok what
 
 -- the operator of a word, if a session can do it so far
 abbrev pub operator_of : List ℕ → Result OpName ScriptWhy
@@ -34,8 +32,8 @@ operator_of w = do
 abbrev pub what_of : Bool → List (List ℕ) → Result What ScriptWhy
 what_of bound [] = Err MissingArgument
 what_of bound (w ∷ ws) =
-    if is_text (codes "undo") w then past undo Undo bound ws
-    else if is_text (codes "redo") w then past redo Redo bound ws
+    if is_text (codes "undo") w then past Undo bound ws
+    else if is_text (codes "redo") w then past Redo bound ws
     else (do
       name ← operator_of w
       a ← arguments_of (Operator name) ws

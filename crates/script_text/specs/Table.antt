@@ -30,15 +30,15 @@ later = false
 
 -- each operator's word, whether a session can do it so far, and its keys in order, each with the form of its value
 abbrev pub row : OpName → List ℕ × Bool × List (List ℕ × Form)
-row MakeVert = (codes "make_vert", later, (codes "at", Point) ∷ [])
-row MakeEdge = (codes "make_edge", later, (codes "verts", Verts) ∷ [])
-row MakeFace = (codes "make_face", later, (codes "verts", Verts) ∷ [])
+row MakeVert = (codes "make_vert", now, (codes "at", Point) ∷ [])
+row MakeEdge = (codes "make_edge", now, (codes "verts", Verts) ∷ [])
+row MakeFace = (codes "make_face", now, (codes "verts", Verts) ∷ [])
 row Set = (codes "set", later, (codes "of", Kind) ∷ (codes "geom", Geom) ∷ (codes "layer", Name) ∷ (codes "values", Ints) ∷ [])
-row Translate = (codes "translate", later, (codes "verts", Geom) ∷ (codes "by", Point) ∷ [])
+row Translate = (codes "translate", now, (codes "verts", Geom) ∷ (codes "by", Point) ∷ [])
 row Scale =
-    (codes "scale", later, (codes "verts", Geom) ∷ (codes "about", Point) ∷ (codes "num", Int) ∷ (codes "den", Int) ∷ [])
-row Mirror = (codes "mirror", later, (codes "verts", Geom) ∷ (codes "axis", Axis) ∷ (codes "about", Int) ∷ [])
-row Reverse = (codes "reverse", later, (codes "faces", Geom) ∷ [])
+    (codes "scale", now, (codes "verts", Geom) ∷ (codes "about", Point) ∷ (codes "num", Int) ∷ (codes "den", Int) ∷ [])
+row Mirror = (codes "mirror", now, (codes "verts", Geom) ∷ (codes "axis", Axis) ∷ (codes "about", Int) ∷ [])
+row Reverse = (codes "reverse", now, (codes "faces", Geom) ∷ [])
 row Duplicate = (codes "duplicate", later, (codes "geom", Geom) ∷ [])
 row Split = (codes "split", later, (codes "geom", Geom) ∷ [])
 row Delete = (codes "delete", now, (codes "geom", Geom) ∷ (codes "context", Context) ∷ [])

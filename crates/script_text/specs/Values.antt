@@ -1,6 +1,6 @@
 -- Values by their forms.
 use Rattle.std.specs.Prelude.{ℕ, ℤ, ◌&&◌, nat_le, nat_lt, if◌then◌else◌, codes, List, [], ◌∷◌}
-use Rattle.std.specs.Prelude.{length, Option, Some, None, Result, Ok, Err, option_and_then}
+use Rattle.std.specs.Prelude.{length, Option, Some, None, Result, Ok, option_and_then}
 use Rattle.text_words.specs.Text.{integer, parts_of}
 use Rattle.mesh_model.specs.declared.records.Point.{Point}
 use Rattle.mesh_model.specs.declared.names.Kind.{Kind}
@@ -18,8 +18,7 @@ use Rattle.script_text.specs.declared.arguments.Form.TheVariants as form
 use Rattle.script_text.specs.declared.arguments.Argument.{Argument}
 use Rattle.script_text.specs.declared.arguments.Argument.TheVariants as argument
 use Rattle.script_text.specs.declared.fault.ScriptWhy.{ScriptWhy}
-use Rattle.script_text.specs.declared.fault.ScriptWhy.TheVariants.{UnknownWord, BadNumber, BadExpression, NotYet}
-use Rattle.script_text.specs.Built.{is_context_built}
+use Rattle.script_text.specs.declared.fault.ScriptWhy.TheVariants.{UnknownWord, BadNumber, BadExpression}
 use Rattle.script_text.specs.Maps.{map_arg}
 use Rattle.text_words.specs.Outcome.{◌>>=◌, ok_or}
 use Rattle.script_text.specs.Table.{found}
@@ -66,10 +65,6 @@ ints word = ints_of (parts_of 44 word)
 abbrev pub layer_name : List ℕ → Option (List ℕ)
 layer_name word = if nat_lt 0 (length word) && nat_le (length word) 63 then Some word else None
 
--- a context, if it can be done so far
-abbrev pub context_built : Context → Result Argument ScriptWhy
-context_built c = if is_context_built c then Ok (argument.Context c) else Err NotYet
-
 -- what a word spells in a form, or its fault
 abbrev pub value_of : Form → List ℕ → Result Argument ScriptWhy
 value_of form.Int word = do
@@ -86,7 +81,7 @@ value_of form.Kind word = do
   Ok (argument.Kind k)
 value_of form.Context word = do
   c ← ok_or (context_of word) UnknownWord
-  context_built c
+  Ok (argument.Context c)
 value_of form.Rule word = do
   r ← ok_or (rule_of word) UnknownWord
   Ok (argument.Rule r)

@@ -3,7 +3,6 @@ ghost use Rattle.std.specs.Prelude.{◌≡◌, map, option_map};
 ghost use Rattle.text_words.specs.Outcome.{Gives, Leaves};
 ghost use Rattle.script_text.specs.Commands.{past, operator_of, what_of, binds, is_bound, new_name, bound_name, command};
 
-use crate::built::{REDO, UNDO};
 use crate::fault::ScriptWhy;
 use crate::rowed::arguments_of;
 use crate::script::Script;
@@ -16,13 +15,10 @@ use text_words::{Stop, is_text, or_fault};
 
 const MOST_COMMANDS: usize = 4_096;
 
-// `undo` or `redo`, and whether it can be done.
-fn past(done: bool, what: What, bound: bool, rest: &[&[u8]]) -> Result<What, Stop<ScriptWhy>>
-    ensures { Gives result (past done what bound (map (λ w. w.now) rest.now)) }
+// `undo` or `redo`, which has no name and no word behind it.
+fn past(what: What, bound: bool, rest: &[&[u8]]) -> Result<What, Stop<ScriptWhy>>
+    ensures { Gives result (past what bound (map (λ w. w.now) rest.now)) }
 {
-    if !done {
-        return Err(Stop::Fault(ScriptWhy::NotYet));
-    }
     if bound || !rest.is_empty() {
         return Err(Stop::Fault(ScriptWhy::BadExpression));
     }
@@ -51,10 +47,10 @@ fn what_of(alloc: Global, bound: bool, words: &[&[u8]]) -> Result<What, Stop<Scr
         [] => Err(Stop::Fault(ScriptWhy::MissingArgument)),
         [word, rest @ ..] => {
             if is_text(b"undo", word) {
-                return past(UNDO, What::Undo, bound, rest);
+                return past(What::Undo, bound, rest);
             }
             if is_text(b"redo", word) {
-                return past(REDO, What::Redo, bound, rest);
+                return past(What::Redo, bound, rest);
             }
             let name = operator_of(word)?;
             let mut arguments = arguments_of(alloc, Row::Operator(name), rest)?;

@@ -7,7 +7,6 @@ ghost use Rattle.script_text.specs.Taken.{has_kind, is_declared, is_fixed, fixed
 ghost use Rattle.script_text.specs.Layers.{width_of, is_refused, declared, added, layer_words, layer};
 
 use crate::arguments::{as_int, as_rule};
-use crate::built::LAYERS;
 use crate::fault::ScriptWhy;
 use crate::rowed::arguments_of;
 use crate::script::Script;
@@ -18,6 +17,9 @@ use mesh_model::{Kind, LayerDecl};
 use sequence::Text;
 use std::alloc::Global;
 use text_words::{Stop, or_fault};
+
+// Whether a session can declare layers so far.
+const LAYERS: bool = false;
 
 fn width_of(width: i64) -> Option<u8>
     ensures { result ≡ width_of width }

@@ -6,7 +6,6 @@
 #![tactic(auto)]
 
 mod arguments;
-mod built;
 mod commands;
 mod fault;
 pub mod laws;

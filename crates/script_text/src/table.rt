@@ -53,14 +53,14 @@ macro_rules! with_operators {
     ($cases:ident $($given:ident)*) => {
         $cases! {
             [$($given)*]
-            MakeVert b"make_vert" later { at b"at" Point }
-            MakeEdge b"make_edge" later { verts b"verts" Verts }
-            MakeFace b"make_face" later { verts b"verts" Verts }
+            MakeVert b"make_vert" now { at b"at" Point }
+            MakeEdge b"make_edge" now { verts b"verts" Verts }
+            MakeFace b"make_face" now { verts b"verts" Verts }
             Set b"set" later { of b"of" Kind, geom b"geom" Geom, layer b"layer" Name, values b"values" Ints }
-            Translate b"translate" later { verts b"verts" Geom, by b"by" Point }
-            Scale b"scale" later { verts b"verts" Geom, about b"about" Point, num b"num" Int, den b"den" Int }
-            Mirror b"mirror" later { verts b"verts" Geom, axis b"axis" Axis, about b"about" Int }
-            Reverse b"reverse" later { faces b"faces" Geom }
+            Translate b"translate" now { verts b"verts" Geom, by b"by" Point }
+            Scale b"scale" now { verts b"verts" Geom, about b"about" Point, num b"num" Int, den b"den" Int }
+            Mirror b"mirror" now { verts b"verts" Geom, axis b"axis" Axis, about b"about" Int }
+            Reverse b"reverse" now { faces b"faces" Geom }
             Duplicate b"duplicate" later { geom b"geom" Geom }
             Split b"split" later { geom b"geom" Geom }
             Delete b"delete" now { geom b"geom" Geom, context b"context" Context }

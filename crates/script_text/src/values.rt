@@ -2,14 +2,13 @@
 ghost use Rattle.std.specs.Prelude.{◌≡◌, map, IfOk};
 ghost use Rattle.text_words.specs.Outcome.{Gives};
 ghost use Rattle.script_text.specs.Values.{kind_of, rule_of, axis_of, method_of, context_of, point_of, point, ints_of};
-ghost use Rattle.script_text.specs.Values.{ints, layer_name, context_built, value_of};
+ghost use Rattle.script_text.specs.Values.{ints, layer_name, value_of};
 ghost use Rattle.std.specs.List.{list_all};
 ghost use Rattle.script_text.specs.Names.{is_letter, is_name_byte, is_name};
 ghost use Rattle.text_words.specs.Each.{each};
 ghost use Rattle.text_words.specs.Text.{integer};
 
 use crate::arguments::{Argument, Form};
-use crate::built::is_context_built;
 use crate::fault::ScriptWhy;
 use crate::maps::map_arg;
 use crate::terms::{geom, verts};
@@ -192,17 +191,6 @@ pub(crate) fn layer_name(alloc: Global, word: &[u8]) -> Result<Option<Text>, NoM
     }
 }
 
-// A context, if it can be done so far.
-fn context_built(context: Context) -> Result<Argument, Stop<ScriptWhy>>
-    ensures { Gives result (context_built context) }
-{
-    if is_context_built(context) {
-        Ok(Argument::Context(context))
-    } else {
-        Err(Stop::Fault(ScriptWhy::NotYet))
-    }
-}
-
 /// The value that a word spells in a form, or its fault.
 #[tactic(auto, using(text_words::proofs::OutcomeLemmas::stops_on))]
 pub(crate) fn value_of(alloc: Global, form: Form, word: &[u8]) -> Result<Argument, Stop<ScriptWhy>>
@@ -227,7 +215,7 @@ pub(crate) fn value_of(alloc: Global, form: Form, word: &[u8]) -> Result<Argumen
         }
         Form::Context => {
             let context = or_fault(context_of(word), ScriptWhy::UnknownWord)?;
-            context_built(context)
+            Ok(Argument::Context(context))
         }
         Form::Rule => {
             let rule = or_fault(rule_of(word), ScriptWhy::UnknownWord)?;
