@@ -97,9 +97,9 @@ ScaleOfSix = outcome (codes "model" ∷ codes "script" ∷ codes "out" ∷ []) (
 
 -- a line at fault refuses the model, whatever the script, and then the script
 abbrev pub InputsRefused : Type 0
-InputsRefused = (outcome plain_words (files (codes "v 0 0 0\nl 1 2\n") (codes "undo"))
+InputsRefused = (outcome plain_words (files (codes "v 0 0 0\nl 1 2\n") (codes "poke"))
     ≡ refusal_outcome (ModelRefused (record { line = 2; why = obj_why.BadIndex })) (codes "model line 2: BadIndex\n"))
-    × (outcome plain_words (files square_text (codes "undo"))
+    × (outcome plain_words (files square_text (codes "poke"))
     ≡ refusal_outcome (ScriptRefused (record { line = 1; why = script_why.NotYet })) (codes "script line 1: NotYet\n"))
 
 -- four words are refused, and so are a model made from a number and the program's own script
@@ -119,7 +119,7 @@ NamesOfFiles = (is_grid (codes "@grid:") ≡ true) × (is_grid (codes "@grid") �
 -- SCRIPT is due only where the model is accepted, and OUT only where the script is
 abbrev pub FilesDue : Type 0
 FilesDue = (due (Some plain_job) (files (codes "q\n") []) ≡ model_starts (codes "model"))
-    × (due (Some plain_job) (files [] (codes "undo")) ≡ model_starts (codes "model") ++ script_starts (codes "script"))
+    × (due (Some plain_job) (files [] (codes "poke")) ≡ model_starts (codes "model") ++ script_starts (codes "script"))
     × (due (Some plain_job) (files [] []) ≡ model_starts (codes "model") ++ script_starts (codes "script")
     ++ out_starts (codes "out"))
     × (due None (files [] []) ≡ [])

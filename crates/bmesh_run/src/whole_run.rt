@@ -4,7 +4,7 @@ ghost use Rattle.std.specs.Prelude.{◌≡◌, ◌≤◌, ◌⊎◌, [], true, N
 ghost use Rattle.std.specs.String.{string_bytes};
 ghost use Rattle.std.specs.List.{list_any};
 ghost use Rattle.mesh_model.specs.Valid.{IsSound};
-ghost use Rattle.mesh_session.specs.State.{fresh_state, IsSoundState};
+ghost use Rattle.mesh_session.specs.State.{fresh_state, IsSoundState, CyclesHoldIn};
 ghost use Rattle.byte_sink.specs.Wrote.{with_after};
 ghost use Rattle.obj_format.specs.Fixed.{BeginsFixed};
 ghost use Rattle.bmesh_run.specs.Job.{out_starts};
@@ -39,8 +39,25 @@ const USAGE: &str = "usage: bmesh MODEL SCRIPT OUT [--scale N]\n";
 /// `words` are those after the program's name, `MODEL SCRIPT OUT [--scale N]` as `command_line::job_of` reads
 /// them, and the session is fresh. The words are judged first, then the model, and then the script: SCRIPT is
 /// opened only where the model is accepted, and OUT only where the script is. The report is printed once OUT is
-/// whole.
+/// whole. Whatever the status, every disk, radial and loop cycle of the session's mesh visits exactly its members, each
+/// once.
 pub fn run<W: World>(
+    alloc: Global,
+    words: &[String],
+    session: &mut Session,
+    world: &mut W,
+) -> Status
+    requires { session.old.state ≡ fresh_state }
+    ensures ran { IsRun (map string_bytes words.now) result session.new.state (W.told world.old) (W.told world.new) }
+    ensures cycles { CyclesHoldIn session.new }
+{
+    let status = run_words(alloc, words, session, world);
+    session.cycles_hold();
+    status
+}
+
+// The same, without a word on cycles.
+fn run_words<W: World>(
     alloc: Global,
     words: &[String],
     session: &mut Session,

@@ -98,8 +98,8 @@ fn the_option_in_one_word(rt: HostRuntime) -> Result<(), Fail> {
     Ok(())
 }
 
-// Whether a run of a model and a script ends, makes and prints as expected.
-fn gives(
+/// Whether a run of a model and a script ends, makes and prints as expected.
+pub(crate) fn gives(
     alloc: Global,
     model: &str,
     script: &str,
@@ -167,11 +167,11 @@ fn refused_inputs_print_one_line(rt: HostRuntime) -> Result<(), Fail> {
         ("v 0 0 0\nl 1 2\n", CUT, 3, "model line 2: BadIndex\n"),
         (
             "v 0 0 0\nf 1 1 1\n",
-            "undo\n",
+            "poke\n",
             3,
             "model line 2: Repeated\n",
         ),
-        ("v 0 0 0\n", "undo\n", 4, "script line 1: NotYet\n"),
+        ("v 0 0 0\n", "poke\n", 4, "script line 1: NotYet\n"),
         (
             SQUARE,
             "\n\ndelete geom=v0, context=verts\n",
@@ -450,8 +450,8 @@ fn pieces_in_a_world_that_never_fails(rt: HostRuntime) -> Result<(), Fail> {
     Ok(())
 }
 
-// So many times a text.
-fn repeated(alloc: Global, text: &str, count: usize) -> Result<String, NoMemory> {
+/// So many times a text.
+pub(crate) fn repeated(alloc: Global, text: &str, count: usize) -> Result<String, NoMemory> {
     let mut all = String::new(alloc);
     for _ in 0..count {
         all.push_str(text)?;
@@ -459,9 +459,9 @@ fn repeated(alloc: Global, text: &str, count: usize) -> Result<String, NoMemory>
     Ok(all)
 }
 
-// How a run of a model and a script ends with ample memory: the status, how many commands can be
-// undone, how much was made, and whether the report ends so.
-fn ends_long(
+/// How a run of a model and a script ends with ample memory: the status, how many commands can be
+/// undone, how much was made, and whether the report ends so.
+pub(crate) fn ends_long(
     alloc: Global,
     model: &str,
     script: &str,

@@ -1,2 +1,6 @@
+pub mod Newest
 pub mod Sounds
-pub mod Deletes
+pub mod Arguments
+pub mod Performances
+pub mod Undoing
+pub mod KeptLayers

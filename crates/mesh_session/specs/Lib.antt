@@ -1,4 +1,6 @@
 pub mod Operators
 pub mod State
 pub mod Steps
+pub mod Performing
+pub mod Laws
 pub mod Rows

@@ -1,40 +1,53 @@
 -- What each operator gives: its slots and the complex after, or the first refusal.
-use Rattle.std.specs.Prelude.{List, [], Result, Ok, Err}
+use Rattle.std.specs.Prelude.{List, Result, Ok, Err}
 use Rattle.mesh_model.specs.Complex.{Complex}
-use Rattle.mesh_model.specs.Elements.{Elements, no_elements}
-use Rattle.mesh_model.specs.Deleting.{without_verts}
+use Rattle.mesh_model.specs.Elements.{Elements}
 use Rattle.mesh_model.specs.declared.refusal.Refusal.{Refusal}
 use Rattle.mesh_model.specs.declared.refusal.Why.TheVariants.{BadValue}
 use Rattle.mesh_model.specs.declared.refusal.Place.TheVariants.{Nowhere}
-use Rattle.op_slots.specs.Values.{resolved}
+use Rattle.op_slots.specs.Values.{resolved, list_refusal, unless_refused}
+use Rattle.op_slots.specs.declared.bindings.Binding.{Binding}
 use Rattle.op_slots.specs.declared.slots.Slots.{Slots}
 use Rattle.op_slots.specs.declared.op.Op.{Op}
-use Rattle.op_slots.specs.declared.op.Op.TheVariants.{Delete}
+use Rattle.op_slots.specs.declared.op.Op.TheVariants.{MakeVert, MakeEdge, MakeFace, Translate, Scale, Mirror, Reverse, Delete}
 use Rattle.op_slots.specs.declared.op.Context.{Context}
-use Rattle.op_slots.specs.declared.op.Context.TheVariants.{Verts}
-use Rattle.op_slots.specs.declared.term.Term.{Term}
+use Rattle.op_slots.specs.declared.op.Context.TheVariants as context
+use Rattle.op_slots.specs.declared.resolving.want.Want.{Want}
 use Rattle.op_slots.specs.declared.resolving.want.Want.TheVariants as want
-use Rattle.mesh_session.specs.State.{State}
-
--- no elements, and no vertex went anywhere
-abbrev pub no_slots : Slots
-no_slots = record { geom = no_elements; map = [] }
+use Rattle.op_basic.specs.Making.{make_vert_row, make_edge_row, make_face_row}
+use Rattle.op_basic.specs.Motions.{translate_row, scale_row, mirror_row}
+use Rattle.op_basic.specs.Turning.{reverse_row}
+use Rattle.op_basic.specs.Deleting.{delete_row}
 
 -- the refusal of a command that a session can't do so far
 abbrev pub unable : Refusal
 unable = record { why = BadValue; place = Nowhere }
 
--- deleting takes the vertices away, with their edges and the faces with them, and gives back no elements
-abbrev pub delete_result : Complex → Result Elements Refusal → Result (Slots × Complex) Refusal
-delete_result c (Err r) = Err r
-delete_result c (Ok x) = Ok (no_slots, without_verts c x.verts)
+-- the refusal of an argument, or else the row over the elements for which it stands
+abbrev pub over : Result Elements Refusal → (Elements → Result (Slots × Complex) Refusal)
+    → Result (Slots × Complex) Refusal
+over (Err r) row = Err r
+over (Ok x) row = row x
 
--- what is deleted with a context: so far vertices
-abbrev pub deleted : State → List Term → Context → Result (Slots × Complex) Refusal
-deleted s geom Verts = delete_result s.now (resolved s.now s.bindings want.Verts geom)
-deleted s geom _ = Err unable
+-- the kind that a context deletes
+abbrev pub kind_wanted : Context → Want
+kind_wanted context.Verts = want.Verts
+kind_wanted context.Edges = want.Edges
+kind_wanted context.EdgesFaces = want.Edges
+kind_wanted context.FacesOnly = want.Faces
+kind_wanted context.Faces = want.Faces
+kind_wanted context.FacesKeepBoundary = want.Faces
 
--- what an operator gives in a state: so far deleting
-abbrev pub op_result : State → Op → Result (Slots × Complex) Refusal
-op_result s (Delete geom context) = deleted s geom context
-op_result s _ = Err unable
+-- what an operator gives over a complex and what is bound: the refusal of an argument comes before those of its
+-- conditions, and an operator that a session can't do so far is refused
+abbrev pub op_row : Op → List Binding → Complex → Result (Slots × Complex) Refusal
+op_row (MakeVert at) bs c = make_vert_row at c
+op_row (MakeEdge verts) bs c = unless_refused (list_refusal c verts) (make_edge_row verts c)
+op_row (MakeFace verts) bs c = unless_refused (list_refusal c verts) (make_face_row verts c)
+op_row (Translate verts by) bs c = over (resolved c bs want.Verts verts) (λ x. translate_row x.verts by c)
+op_row (Scale verts about num den) bs c =
+    over (resolved c bs want.Verts verts) (λ x. scale_row x.verts about num den c)
+op_row (Mirror verts axis about) bs c = over (resolved c bs want.Verts verts) (λ x. mirror_row x.verts axis about c)
+op_row (Reverse faces) bs c = over (resolved c bs want.Faces faces) (λ x. reverse_row x.faces c)
+op_row (Delete geom context) bs c = over (resolved c bs (kind_wanted context) geom) (λ x. delete_row context x c)
+op_row _ bs c = Err unable

@@ -7,17 +7,19 @@ use Rattle.mesh_model.specs.Models.{square, vert}
 use Rattle.mesh_model.specs.declared.names.Elem.{Elem}
 use Rattle.mesh_model.specs.declared.names.Elem.TheVariants.{Vert, Edge}
 use Rattle.mesh_model.specs.declared.refusal.Why.{Why}
-use Rattle.mesh_model.specs.declared.refusal.Why.TheVariants.{NoSuch, NoSlot, WrongKind, Empty}
+use Rattle.mesh_model.specs.declared.refusal.Why.TheVariants.{NoSuch, NoSlot, WrongKind, Empty, NothingToUndo}
+use Rattle.mesh_model.specs.declared.refusal.Why.TheVariants.{NothingToRedo}
 use Rattle.mesh_model.specs.declared.refusal.Place.TheVariants as place
 use Rattle.mesh_model.specs.declared.names.Kind.TheVariants as kind
 use Rattle.op_slots.specs.declared.bindings.Binding.{Binding}
 use Rattle.op_slots.specs.declared.term.Term.{Term}
 use Rattle.op_slots.specs.declared.term.Term.TheVariants.{One, Range, Slot}
-use Rattle.op_slots.specs.declared.op.Op.TheVariants.{Delete}
+use Rattle.op_slots.specs.declared.op.Op.TheVariants.{Delete, Poke}
 use Rattle.op_slots.specs.declared.op.Context.TheVariants.{Verts}
-use Rattle.op_slots.specs.declared.command.What.TheVariants.{Run, Undo}
+use Rattle.op_slots.specs.declared.command.What.TheVariants.{Run, Undo, Redo}
 use Rattle.op_slots.specs.declared.command.Command.{Command}
-use Rattle.mesh_session.specs.Operators.{no_slots, unable}
+use Rattle.mesh_passes.specs.Row.{no_slots}
+use Rattle.mesh_session.specs.Operators.{unable}
 use Rattle.mesh_session.specs.State.{State, first_state, fresh_state}
 use Rattle.mesh_session.specs.Steps.{step, steps}
 use Rattle.mesh_session.specs.declared.reply.Reply.{Reply}
@@ -83,7 +85,48 @@ DeletesARange =
 -- what can't be done so far is refused
 abbrev pub RefusesTheRest : Type 0
 RefusesTheRest =
-    step (first_state square) (record { line = 1; bind = None; what = Undo }) ≡ (Refused unable, first_state square)
+    step (first_state square) (record { line = 1; bind = None; what = Run (Poke (vert_term 0 ∷ [])) })
+    ≡ (Refused unable, first_state square)
+
+-- undo and redo on a line
+abbrev pub undoes : ℕ → Command
+undoes line = record { line = line; bind = None; what = Undo }
+
+abbrev pub redoes : ℕ → Command
+redoes line = record { line = line; bind = None; what = Redo }
+
+-- a refusal without an element
+abbrev pub refused : Why → Reply
+refused why = Refused (record { why = why; place = place.Nowhere })
+
+-- there is nothing to go back to, and nothing to go on to
+abbrev pub NothingToGoTo : Type 0
+NothingToGoTo =
+    steps (first_state square) (undoes 1 ∷ redoes 2 ∷ [])
+    ≡ (refused NothingToUndo ∷ refused NothingToRedo ∷ [], first_state square)
+
+-- undo gives the square back and takes the name away, redo gives both back, and a new command leaves nothing to redo
+abbrev pub GoesBackAndOn : Type 0
+GoesBackAndOn =
+    let cut : Command = record (deletes 1 (vert_term 0 ∷ [])) { bind = Some (codes "gone") } in
+    let binding : Binding = record { name = codes "gone"; slots = no_slots } in
+    let corner : Complex = without_verts square (vert 0 ∷ []) in
+    (steps (first_state square) (cut ∷ undoes 2 ∷ [])
+    ≡ (
+      Done no_slots ∷ Done no_slots ∷ [],
+      record {
+        now = square;
+        bindings = [];
+        undo = [];
+        redo = record { complex = corner; binding = Some binding } ∷ [];
+      },
+    ))
+    × ((steps (first_state square) (cut ∷ undoes 2 ∷ redoes 3 ∷ [])).1 ≡ (step (first_state square) cut).1)
+    × (steps (first_state square) (cut ∷ undoes 2 ∷ deletes 3 (vert_term 1 ∷ []) ∷ redoes 4 ∷ [])
+    ≡ (
+      Done no_slots ∷ Done no_slots ∷ Done no_slots ∷ refused NothingToRedo ∷ [],
+      state_after (without_verts square (vert 1 ∷ [])) (square ∷ []),
+    ))
 
 -- a vertex that isn't there is refused by its name, the first in the order written, and the state is the same
 abbrev pub RefusesAMissingVertex : Type 0

@@ -8,8 +8,8 @@ use Rattle.bmesh_run.proofs.laws.refused.Goals as goal
 pub returns-clause-inputs : goal.returns-clause-inputs
 unfolding digits
 returns-clause-inputs c = (
-  run_at_zero (files (codes "v 0 0 0\nl 1 2\n") (codes "undo")) ∙ refl,
-  run_at_zero (files square_text (codes "undo")) ∙ refl,
+  run_at_zero (files (codes "v 0 0 0\nl 1 2\n") (codes "poke")) ∙ refl,
+  run_at_zero (files square_text (codes "poke")) ∙ refl,
 )
 
 pub returns-clause-words : goal.returns-clause-words

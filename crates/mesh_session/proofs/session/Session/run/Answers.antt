@@ -1,7 +1,18 @@
-use Rattle.mesh_session.proofs.Deletes.{other_operator}
+use Rattle.mesh_session.specs.Operators.{op_row}
+use Rattle.mesh_session.specs.Performing.{state_of}
+use Rattle.mesh_session.specs.Steps.{binding_of}
+use Rattle.mesh_core.specs.Seen.{now}
+use Rattle.mesh_session.proofs.Sounds.{sound_run, named_new}
 use Rattle.mesh_session.proofs.session.Session.run.Goals as goal
 
-pub returns-in_default-clause-ok : goal.returns-in_default-clause-ok
-returns-in_default-clause-ok c =
-    other_operator c.args.self.now.state c.args.op.now c.args.name.now c.unable.result c.in_default.not-Delete
-    c.unable.ensures
+pub invariant_of-self-2 : goal.invariant_of-self-2
+invariant_of-self-2 c = record {
+  state = sound_run (state_of c.self.inside.mesh c.self.inside.history) (state_of c.run.new.mesh c.run.new.history)
+      (binding_of c.args.name.now)
+      (op_row c.args.op.now c.self.inside.history.bindings.bound (now c.self.inside.mesh)) c.in_ok-reply.reply
+      c.in_ok-reply.ensures.ok
+      (λ slots. named_new c.self.inside.history.bindings.bound c.args.name.now slots
+      (rw (← c.self.view_is) at c.requires))
+      c.self.invariant.state c.in_ok-reply.ensures.ready.sound;
+  same = c.in_ok-reply.ensures.ready.same;
+}

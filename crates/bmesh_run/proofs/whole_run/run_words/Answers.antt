@@ -2,7 +2,7 @@ use Rattle.std.proofs.Common.{map, ap, Err}
 use Rattle.std.specs.String.{string_bytes}
 use Rattle.bmesh_run.specs.Job.{Job}
 use Rattle.bmesh_run.proofs.Levels.{is_run_job, is_run_unread, is_run_usage}
-use Rattle.bmesh_run.proofs.whole_run.run.Goals as goal
+use Rattle.bmesh_run.proofs.whole_run.run_words.Goals as goal
 
 pub returns-in-Ok : goal.returns-in-Ok
 returns-in-Ok g c =
