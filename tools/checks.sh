@@ -61,7 +61,7 @@ is_as_wanted() {
     return "$faults"
 }
 
-# check_example FOLDER: runs one example.
+# check_example FOLDER: runs one example, with the scale that its folder says, or 0.
 check_example() {
     name=$(basename "$1")
     run=$scratch/example-$name
@@ -69,7 +69,9 @@ check_example() {
         fail "examples/$name"
         return
     fi
-    (cd "$run" && "$program" model.obj script.txt out.obj --scale 0 < /dev/null > report.txt; echo "$?" > status)
+    scale=$(cat "$1/scale" 2> /dev/null) || scale=0
+    (cd "$run" && "$program" model.obj script.txt out.obj --scale "$scale" < /dev/null > report.txt
+        echo "$?" > status)
     if is_as_wanted "$1" "$run"; then pass; else fail "examples/$name"; fi
 }
 
