@@ -1,4 +1,5 @@
-# Installs bmesh with its man page, the completion of its words for bash and zsh, the manual and the examples:
+# Installs bmesh with its man page, the completion of its words for bash and zsh, the manual, the recipes and the
+# examples:
 #
 #     make install [PREFIX=/usr/local] [DESTDIR=FOLDER]
 #     make uninstall [PREFIX=/usr/local] [DESTDIR=FOLDER]
@@ -18,7 +19,8 @@ bashcompletiondir = $(PREFIX)/share/bash-completion/completions
 zshcompletiondir = $(PREFIX)/share/zsh/site-functions
 
 # They lie in docdir as they do here, those of docs/ at its top.
-DOCUMENTS = LICENSE docs/manual.md $(sort $(wildcard docs/pictures/*.svg examples/README.md examples/*/*))
+DOCUMENTS = LICENSE docs/manual.md docs/recipes.md \
+	$(sort $(wildcard docs/pictures/*.svg examples/README.md examples/*/*))
 
 .PHONY: help install uninstall
 
