@@ -1,0 +1,2 @@
+-- Definitions of the tests.
+pub mod Grown
