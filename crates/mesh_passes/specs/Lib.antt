@@ -3,7 +3,6 @@ pub mod Answer
 pub mod Closed
 pub mod Killing
 pub mod KillingSteps
-pub mod Copying
 pub mod Moving
 pub mod Turning
 pub mod Closing

@@ -1,16 +1,16 @@
 -- In a sorted list the least number that stands twice is the first that is equal to the one after it.
 use Rattle.std.proofs.Common.{◌≡◌, ◌≢◌, ℕ, zero, suc, ◌+◌, ◌<◌, ◌≤◌, Bool, true, false, cond, eqb, nat_le, List, [], ◌∷◌}
-use Rattle.std.proofs.Common.{length, map, get_or, refl, sym, ap, ◌∙◌, subst, inl, inr, arith, Option, Some, None, find, All}
-use Rattle.std.specs.List.{range_with_len, count_by, sum_by}
+use Rattle.std.proofs.Common.{length, map, get_or, refl, sym, ap, ◌∙◌, subst, inl, inr, arith, Option, Some, None, find}
+use Rattle.std.specs.List.{range_with_len, count_by}
 use Rattle.std.specs.List.Sorted.{IsSorted, IsPermutation}
 use Rattle.std.specs.Ordering.{nat_cmp}
 use Rattle.std.specs.Option.{option_map}
-use Rattle.std.proofs.lemmas.Bool.{cases_eq, cond-true, cond-false, eq-eqb, eqb-true, ne_eqb, le-leb, leb-true}
+use Rattle.std.proofs.lemmas.Bool.{cases_eq, cond-true, cond-false, eq-eqb, ne_eqb, le-leb}
 use Rattle.std.proofs.lemmas.Map.Keys.{ge_from_not_lt}
 use Rattle.std.proofs.lemmas.List.Sums.{sum_by-cons}
 use Rattle.std.proofs.lemmas.List.Sorted.{sum_by-IsPermutation}
 use Rattle.mesh_model.specs.Complex.{Complex}
-use Rattle.mesh_model.specs.Naming.{vert_numbers, is_rising}
+use Rattle.mesh_model.specs.Naming.{vert_numbers}
 use Rattle.mesh_model.specs.declared.names.VertName.{VertName}
 use Rattle.op_basic.specs.Making.{least_repeated}
 use Rattle.op_basic.specs.Searching.{first_double}

@@ -1,7 +1,6 @@
 -- The conditions of making a face, by what the searches find.
-use Rattle.std.proofs.Common.{◌≡◌, ℕ, suc, ◌+◌, ◌<◌, ◌≤◌, Bool, true, eqb, List, [], ◌∷◌, length, map, get_or, refl, sym, ap}
-use Rattle.std.proofs.Common.{◌∙◌, subst, arith, Option, Some, None, All, false, nat_le}
-use Rattle.std.proofs.lemmas.Bool.{false_from_ne_true, leb-true, le-leb}
+use Rattle.std.proofs.Common.{◌≡◌, ℕ, suc, ◌+◌, ◌<◌, Bool, true, eqb, List, ◌∷◌, length, map, get_or, sym, ap}
+use Rattle.std.proofs.Common.{◌∙◌, subst, arith, Option, Some, None, All}
 use Rattle.std.specs.Option.{option_map}
 use Rattle.std.specs.Ordering.{nat_cmp}
 use Rattle.std.specs.List.{list_any}
@@ -13,21 +12,20 @@ use Rattle.mesh_model.specs.Table.{IsThere}
 use Rattle.mesh_model.specs.Complex.{Complex}
 use Rattle.mesh_model.specs.Lookups.{least_face}
 use Rattle.mesh_model.specs.Naming.{is_rising, vert_numbers}
-use Rattle.mesh_model.specs.Refusals.{first_of, unless, refused_at, unless_too_many}
+use Rattle.mesh_model.specs.Refusals.{first_of, refused_at}
 use Rattle.mesh_model.specs.Valid.{are_distinct}
-use Rattle.mesh_model.specs.declared.limits.TheConstants.{MIN_SIDES, MAX_SIDES}
 use Rattle.mesh_model.specs.declared.names.VertName.{VertName}
 use Rattle.mesh_model.specs.declared.names.FaceName.{FaceName}
 use Rattle.mesh_model.specs.declared.names.Elem.TheVariants.{Vert, Face}
 use Rattle.mesh_model.specs.declared.records.FaceRec.{FaceRec}
 use Rattle.mesh_model.specs.declared.refusal.Refusal.{Refusal}
-use Rattle.mesh_model.specs.declared.refusal.Why.TheVariants.{TooShort, TooLong, Repeated, Exists}
-use Rattle.mesh_model.specs.declared.refusal.Place.TheVariants.{Nowhere, Elem as AtElem}
+use Rattle.mesh_model.specs.declared.refusal.Why.TheVariants.{Repeated, Exists}
+use Rattle.mesh_model.specs.declared.refusal.Place.TheVariants.{Elem as AtElem}
 use Rattle.mesh_model.proofs.Polygons.{distinct-from}
 use Rattle.mesh_model.proofs.Tables.{there-below}
-use Rattle.mesh_passes.proofs.Conditions.{fails, holds, fails_unless, holds_unless}
+use Rattle.mesh_passes.proofs.Conditions.{fails, holds}
 use Rattle.mesh_passes.proofs.NameLists.{increasing_rises}
-use Rattle.op_basic.specs.Making.{has_just, least_repeated, with_face_on, make_face_refusal}
+use Rattle.op_basic.specs.Making.{has_just, least_repeated}
 use Rattle.op_basic.specs.Searching.{first_double}
 use Rattle.op_basic.proofs.Doubles.{repeated_sorted, rises}
 use Rattle.op_basic.proofs.MadeFaces.{apart}
@@ -91,39 +89,3 @@ pub again_holds : (o : Option FaceName) (rest : List (Option Refusal)) → o ≡
     → first_of rest ≡ first_of (refused_at Exists (option_map Face o) ∷ rest)
 again_holds o rest is = holds (refused_at Exists (option_map Face o)) rest
     (ap (λ (p : Option FaceName). refused_at Exists (option_map Face p)) is)
-
--- ---- THE LENGTH
-
-abbrev later : Complex → List VertName → List (Option Refusal)
-later c vs = refused_at Repeated (option_map Vert (least_repeated c vs))
-    ∷ refused_at Exists (option_map Face (least_face (has_just vs) c))
-    ∷ unless_too_many (with_face_on c vs)
-    ∷ []
-
-over : (m n : ℕ) → n < m → nat_le m n ≡ false
-over m n less = false_from_ne_true (nat_le m n) (λ h. let most = leb-true m n h in omega arith)
-
-pub too_short : (c : Complex) (vs : List VertName) → length vs < MIN_SIDES
-    → Some (record { why = TooShort; place = Nowhere }) ≡ make_face_refusal vs c
-too_short c vs short =
-    fails_unless (nat_le MIN_SIDES (length vs)) TooShort (unless (nat_le (length vs) MAX_SIDES) TooLong ∷ later c vs)
-    (over MIN_SIDES (length vs) short)
-
--- the other conditions, where it isn't too short
-long_enough : (c : Complex) (vs : List VertName) → MIN_SIDES ≤ length vs
-    → first_of (unless (nat_le (length vs) MAX_SIDES) TooLong ∷ later c vs) ≡ make_face_refusal vs c
-long_enough c vs least =
-    holds_unless (nat_le MIN_SIDES (length vs)) TooShort (unless (nat_le (length vs) MAX_SIDES) TooLong ∷ later c vs)
-    (le-leb MIN_SIDES (length vs) least)
-
-pub too_long : (c : Complex) (vs : List VertName) → MIN_SIDES ≤ length vs → MAX_SIDES < length vs
-    → Some (record { why = TooLong; place = Nowhere }) ≡ make_face_refusal vs c
-too_long c vs least long =
-    fails_unless (nat_le (length vs) MAX_SIDES) TooLong (later c vs) (over (length vs) MAX_SIDES long)
-    ∙ long_enough c vs least
-
-pub right_length : (c : Complex) (vs : List VertName) → MIN_SIDES ≤ length vs → length vs ≤ MAX_SIDES
-    → first_of (later c vs) ≡ make_face_refusal vs c
-right_length c vs least most =
-    holds_unless (nat_le (length vs) MAX_SIDES) TooLong (later c vs) (le-leb (length vs) MAX_SIDES most)
-    ∙ long_enough c vs least

@@ -1,5 +1,5 @@
 -- A face is made on a polygon: what its conditions say, and that what is made is sound.
-use Rattle.std.proofs.Common.{◌≡◌, ◌≢◌, ℕ, zero, suc, ◌+◌, ◌<◌, ◌≤◌, Bool, true, false, cond, eqb, nat_lt, nat_le, List, []}
+use Rattle.std.proofs.Common.{◌≡◌, ◌≢◌, ℕ, zero, suc, ◌+◌, ◌<◌, ◌≤◌, Bool, true, false, cond, eqb, nat_le, List, []}
 use Rattle.std.proofs.Common.{◌∷◌, ◌++◌, length, map, get_or, refl, sym, ap, ◌∙◌, subst, inl, inr, arith, Option, Some, None}
 use Rattle.std.proofs.Common.{All, find, is_some, min}
 use Rattle.std.specs.List.{zip, count_by, range_with_len}
@@ -8,16 +8,15 @@ use Rattle.std.proofs.lemmas.List.{length-map, get_or-map, get_or_default, lengt
 use Rattle.std.proofs.lemmas.List.FromFn.{get_or-range_with_len, length-map-range_with_len, length-range_with_len}
 use Rattle.std.proofs.lemmas.List.Sums.{sum_by-cons}
 use Rattle.std.proofs.lemmas.Slice.Zip.{get_or-zip, length-zip}
-use Rattle.mesh_model.specs.Table.{at, IsThere, passes}
+use Rattle.mesh_model.specs.Table.{at, IsThere}
 use Rattle.mesh_model.specs.Complex.{Complex, verts_of, corner_sum, counters_of}
 use Rattle.mesh_model.specs.Incidence.{joins, sides}
-use Rattle.mesh_model.specs.Kernel.{corner_from, with_face_like, face_vals_like}
+use Rattle.mesh_model.specs.Kernel.{corner_from, face_vals_like}
 use Rattle.mesh_model.specs.Making.{edges_along}
-use Rattle.mesh_model.specs.Valid.{are_distinct, is_closed, IsPolygon, IsSound, IsWithinLimits}
-use Rattle.mesh_model.specs.declared.limits.TheConstants.{MAX_SIDES, MAX_EDGES, MAX_FACES, MAX_CORNERS}
+use Rattle.mesh_model.specs.Valid.{are_distinct, IsPolygon, IsSound, IsWithinLimits}
+use Rattle.mesh_model.specs.declared.limits.TheConstants.{MAX_SIDES, MAX_FACES, MAX_CORNERS}
 use Rattle.mesh_model.specs.declared.names.VertName.{VertName}
 use Rattle.mesh_model.specs.declared.names.EdgeName.{EdgeName}
-use Rattle.mesh_model.specs.declared.records.Counters.{Counters}
 use Rattle.mesh_model.specs.declared.records.CornerRec.{CornerRec}
 use Rattle.mesh_model.specs.declared.records.EdgeRec.{EdgeRec}
 use Rattle.mesh_model.specs.declared.records.FaceRec.{FaceRec}
@@ -32,7 +31,7 @@ use Rattle.mesh_model.proofs.Tables.{there_passes}
 use Rattle.op_basic.specs.Making.{least_repeated, with_face_on}
 use Rattle.op_basic.specs.Searching.{missing}
 use Rattle.op_basic.proofs.SideEdges.{Side, IsSide, NoneAgain, IsSound-along, joined_along, length-along, length-missing}
-use Rattle.op_basic.proofs.SideEdges.{only_edges, more_along, IsMore}
+use Rattle.op_basic.proofs.SideEdges.{only_edges}
 
 -- ---- NO VERTEX STANDS TWICE
 

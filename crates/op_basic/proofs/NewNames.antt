@@ -1,6 +1,6 @@
 -- What is new where records were appended: the names from the old count on.
-use Rattle.std.proofs.Common.{◌≡◌, ℕ, zero, suc, ◌+◌, ◌-◌, ◌<◌, ◌≤◌, Bool, true, false, not, cond, nat_lt, ◌&&◌, List, [], ◌∷◌}
-use Rattle.std.proofs.Common.{◌++◌, length, map, filter, get_or, refl, sym, ap, ◌∙◌, arith, Option, Some, None, is_some, All}
+use Rattle.std.proofs.Common.{◌≡◌, ℕ, zero, suc, ◌+◌, ◌-◌, ◌<◌, ◌≤◌, Bool, true, false, not, nat_lt, ◌&&◌, List, [], ◌∷◌}
+use Rattle.std.proofs.Common.{◌++◌, length, map, filter, refl, ap, ◌∙◌, arith, Option, Some, None, is_some, All}
 use Rattle.std.specs.List.{range_with_len, list_all}
 use Rattle.std.proofs.Math.ListN.{get_or-append}
 use Rattle.std.proofs.Math.Seq.{get_or-append_right}
@@ -13,7 +13,6 @@ use Rattle.mesh_model.specs.Naming.{is_rising, are_rising, edge_numbers}
 use Rattle.mesh_model.specs.declared.names.VertName.{VertName}
 use Rattle.mesh_model.specs.declared.names.EdgeName.{EdgeName}
 use Rattle.mesh_model.specs.declared.names.FaceName.{FaceName}
-use Rattle.mesh_model.specs.declared.records.EdgeRec.{EdgeRec}
 use Rattle.mesh_model.specs.declared.records.FaceRec.{FaceRec}
 use Rattle.mesh_model.proofs.Tables.{at-past}
 use Rattle.op_basic.specs.Searching.{edges_and_face}

@@ -1,6 +1,6 @@
 -- The least face that passes a test, among some faces that have all that pass.
-use Rattle.std.proofs.Common.{◌≡◌, ℕ, zero, suc, ◌+◌, ◌<◌, ◌≤◌, Bool, true, false, cond, eqb, nat_lt, ◌&&◌, ◌||◌, List, [], ◌∷◌, ◌++◌}
-use Rattle.std.proofs.Common.{length, map, take, get_or, refl, sym, ap, ◌∙◌, subst, inl, inr, arith, Option, Some, None, All, is_some}
+use Rattle.std.proofs.Common.{◌≡◌, ℕ, ◌<◌, ◌≤◌, Bool, true, false, cond, eqb, nat_lt, ◌||◌, List, [], ◌∷◌, ◌++◌}
+use Rattle.std.proofs.Common.{length, map, get_or, refl, sym, ap, ◌∙◌, subst, inl, inr, arith, Option, Some, None, All, is_some}
 use Rattle.std.specs.Prelude.{nat_eq}
 use Rattle.std.specs.Cmp.Lexicographic.{pointwise}
 use Rattle.std.specs.List.{position, list_all, list_any}
@@ -23,7 +23,6 @@ use Rattle.mesh_model.specs.declared.names.EdgeName.{EdgeName}
 use Rattle.mesh_model.specs.declared.names.FaceName.{FaceName}
 use Rattle.mesh_model.specs.declared.records.CornerRec.{CornerRec}
 use Rattle.mesh_model.specs.declared.records.FaceRec.{FaceRec}
-use Rattle.mesh_model.proofs.Lists.{list_all-All, All-list_all, list_any-elim}
 use Rattle.mesh_model.proofs.NameSets.{same_tests}
 use Rattle.mesh_model.proofs.Refusing.{position-none}
 use Rattle.mesh_model.proofs.Tables.{at-below}

@@ -1,15 +1,14 @@
 -- Edges that are found or made along sides: what they leave, and how many there are.
-use Rattle.std.proofs.Common.{◌≡◌, ◌≢◌, ℕ, zero, suc, ◌+◌, ◌<◌, ◌≤◌, Bool, true, false, not, cond, eqb, List, [], ◌∷◌}
-use Rattle.std.proofs.Common.{◌++◌, length, length-append, take, get_or, refl, sym, ap, ◌∙◌, subst, inl, inr, arith, Option, Some}
+use Rattle.std.proofs.Common.{◌≡◌, ◌≢◌, ℕ, zero, suc, ◌+◌, ◌<◌, ◌≤◌, Bool, true, false, not, cond, List, [], ◌∷◌}
+use Rattle.std.proofs.Common.{◌++◌, length, length-append, take, get_or, refl, sym, ap, ◌∙◌, subst, arith, Option, Some}
 use Rattle.std.proofs.Common.{None, is_some, append_assoc}
 use Rattle.std.specs.Option.{option_or}
-use Rattle.std.specs.List.{All, count_by, zip}
-use Rattle.std.proofs.lemmas.Bool.{true≢false}
+use Rattle.std.specs.List.{All, zip}
 use Rattle.std.proofs.lemmas.List.{take_more, take_all, length_push, append-nil}
 use Rattle.std.proofs.lemmas.List.Elements.{All-head, All-tail, All-append}
 use Rattle.std.proofs.lemmas.List.Sums.{sum_by-cons, count_by-le-length}
 use Rattle.cust_data.proofs.MixedCells.{zip-append}
-use Rattle.mesh_model.specs.Table.{at, IsThere, passes}
+use Rattle.mesh_model.specs.Table.{IsThere, passes}
 use Rattle.mesh_model.specs.Complex.{Complex}
 use Rattle.mesh_model.specs.Incidence.{joins, edge_joining}
 use Rattle.mesh_model.specs.Making.{edge_from_to, with_found, edge_between, edges_along}

@@ -2,7 +2,7 @@
 use Rattle.std.proofs.Common.{◌≡◌, ◌≢◌, ℕ, ◌+◌, ◌<◌, ◌≤◌, List, [], ◌∷◌, ◌++◌, length, take, drop, get_or, refl, sym, ap, ◌∙◌}
 use Rattle.std.proofs.Common.{subst, arith, true, Bool, false, cond, not, Option, is_some}
 use Rattle.std.specs.List.{zip}
-use Rattle.std.proofs.lemmas.List.{length-take, take-append-drop, take_all, get_or_default}
+use Rattle.std.proofs.lemmas.List.{length-take, take-append-drop, take_all}
 use Rattle.mesh_model.specs.Table.{IsThere}
 use Rattle.mesh_model.specs.Complex.{Complex}
 use Rattle.mesh_model.specs.Incidence.{edge_joining, sides}
@@ -10,7 +10,7 @@ use Rattle.mesh_model.specs.Making.{edge_between, edges_along}
 use Rattle.mesh_model.specs.Valid.{are_distinct}
 use Rattle.mesh_model.specs.declared.names.VertName.{VertName}
 use Rattle.mesh_model.specs.declared.names.EdgeName.{EdgeName}
-use Rattle.mesh_model.proofs.Polygons.{after, after-below, AreApart, distinct-at, get_or-sides, length-sides}
+use Rattle.mesh_model.proofs.Polygons.{after, after-below, distinct-at, get_or-sides, length-sides}
 use Rattle.op_basic.specs.Searching.{next_place, side_at, is_missing, missing}
 use Rattle.op_basic.proofs.SideEdges.{Side, only_edges, along_more, along_more_names, length-along, zip_more, longer-along}
 use Rattle.op_basic.proofs.SideEdges.{along-append, missing_few}

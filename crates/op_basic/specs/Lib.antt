@@ -1,8 +1,6 @@
 pub mod Making
-pub mod Setting
 pub mod Motions
 pub mod Turning
-pub mod Duplicating
 pub mod Deleting
 pub mod Rows
 pub mod Coordinates

@@ -1,36 +1,31 @@
 -- Operators on small models, worked out by hand.
-use Rattle.std.specs.Prelude.{◌≡◌, ℕ, ℤ, pos, negsuc, List, [], ◌∷◌, ◌++◌, map, replicate, codes, Result, Ok, Err}
+use Rattle.std.specs.Prelude.{◌≡◌, ℕ, ℤ, pos, negsuc, List, [], ◌∷◌, ◌++◌, map, replicate, Result, Ok, Err}
 use Rattle.std.specs.declared.option.Option.{Option}
 use Rattle.std.specs.declared.option.Option.TheVariants.{None, Some}
 use Rattle.std.specs.List.{fold}
-use Rattle.cust_data.specs.declared.rule.Rule.TheVariants.{Mix}
 use Rattle.mesh_model.specs.Table.{at, erase}
-use Rattle.mesh_model.specs.Complex.{Complex, new_model, no_layers, fixed_layers, material_layer}
+use Rattle.mesh_model.specs.Complex.{Complex, new_model, fixed_layers}
 use Rattle.mesh_model.specs.Elements.{Elements, no_elements}
 use Rattle.mesh_model.specs.Making.{with_vert}
-use Rattle.mesh_model.specs.Kernel.{with_face_vals, with_corner_vals, reversed_face}
+use Rattle.mesh_model.specs.Kernel.{reversed_face}
 use Rattle.mesh_model.specs.Models.{weight, mark, vert, edge, face, point, ends, corner, face_of, model, square, strip}
 use Rattle.mesh_model.specs.Models.{fin}
 use Rattle.mesh_model.specs.declared.names.Elem.TheVariants.{Vert, Edge, Face}
-use Rattle.mesh_model.specs.declared.names.Kind.TheVariants as kind
 use Rattle.mesh_model.specs.declared.records.Point.{Point}
 use Rattle.mesh_model.specs.declared.records.VertRec.{VertRec}
 use Rattle.mesh_model.specs.declared.refusal.Refusal.{Refusal}
 use Rattle.mesh_model.specs.declared.refusal.Why.{Why}
 use Rattle.mesh_model.specs.declared.refusal.Why.TheVariants.{BadValue, Repeated, Exists, TooShort, TooLong}
-use Rattle.mesh_model.specs.declared.refusal.Why.TheVariants.{OutOfGrid, NoLayer}
+use Rattle.mesh_model.specs.declared.refusal.Why.TheVariants.{OutOfGrid}
 use Rattle.mesh_model.specs.declared.refusal.Place.TheVariants as place
 use Rattle.op_slots.specs.declared.op.Context.TheVariants as context
 use Rattle.op_slots.specs.declared.op.Axis.TheVariants as axis
 use Rattle.op_slots.specs.declared.slots.Slots.{Slots}
-use Rattle.op_slots.specs.declared.mapping.Pair.{Pair}
 use Rattle.mesh_passes.specs.Row.{only, no_slots}
 use Rattle.op_basic.specs.Making.{make_vert_row, make_edge_refusal, make_edge_row, make_face_refusal, make_face_row}
-use Rattle.op_basic.specs.Setting.{set_refusal, set_result, set_row}
 use Rattle.op_basic.specs.Motions.{translate_refusal, translate_row, scale_refusal, scale_result, mirror_refusal}
 use Rattle.op_basic.specs.Motions.{mirror_result}
 use Rattle.op_basic.specs.Turning.{reverse_result, reverse_row}
-use Rattle.op_basic.specs.Duplicating.{duplicate_result, duplicate_row, split_result, split_row}
 use Rattle.op_basic.specs.Deleting.{remaining, delete_result}
 
 -- the point of three coordinates
@@ -50,10 +45,6 @@ edges_only ns = record no_elements { edges = map edge ns }
 
 abbrev pub faces_only : List ℕ → Elements
 faces_only ns = record no_elements { faces = map face ns }
-
--- a vertex with its copy
-abbrev pub copy_of : ℕ → ℕ → Pair
-copy_of a b = record { source = vert a; target = vert b }
 
 -- refused without an element
 abbrev pub refused : Why → Result (Slots × Complex) Refusal
@@ -105,44 +96,6 @@ abbrev pub MakesEdges : Type 0
 MakesEdges = make_edge_row (vert 2 ∷ vert 0 ∷ []) square
     ≡ Ok (only (edges_only (4 ∷ [])), record square { edges = square.edges ++ Some (ends 2 0) ∷ [] })
 
--- ---- VALUES
-
--- a face put into the smoothing group 3, whose material stays; no layer of that name; two numbers for one; a material
--- that isn't there; a group below 0
-abbrev pub SetsValues : Type 0
-SetsValues =
-    (set_row kind.Faces (faces_only (0 ∷ [])) (codes "smooth") (pos 3 ∷ []) square
-    ≡ Ok (
-      only (faces_only (0 ∷ [])),
-      record square {
-        faces = Some (record (face_of (corner 0 0 ∷ corner 1 1 ∷ corner 2 2 ∷ corner 3 3 ∷ [])) {
-          vals = pos 0 ∷ pos 3 ∷ [];
-        }) ∷ [];
-      },
-    ))
-    × (set_refusal kind.Faces (faces_only (0 ∷ [])) (codes "weight") (pos 1 ∷ []) square
-    ≡ Some (record { why = NoLayer; place = place.Nowhere }))
-    × (set_refusal kind.Faces (faces_only (0 ∷ [])) (codes "smooth") (pos 1 ∷ pos 2 ∷ []) square
-    ≡ Some (record { why = BadValue; place = place.Nowhere }))
-    × (set_refusal kind.Faces (faces_only (0 ∷ [])) (codes "material") (pos 1 ∷ []) square
-    ≡ Some (record { why = BadValue; place = place.Nowhere }))
-    × (set_refusal kind.Faces (faces_only (0 ∷ [])) (codes "smooth") (negsuc 0 ∷ []) square
-    ≡ Some (record { why = BadValue; place = place.Nowhere }))
-
--- a place in the texture for each corner of a face
-abbrev pub SetsCorners : Type 0
-SetsCorners = set_result kind.Corners (faces_only (0 ∷ [])) (codes "uv") (pos 7 ∷ pos 8 ∷ []) triangle
-    ≡ (
-      only (faces_only (0 ∷ [])),
-      record triangle {
-        faces = Some (face_of (
-            record (corner 0 0) { vals = pos 7 ∷ pos 8 ∷ [] }
-            ∷ record (corner 1 1) { vals = pos 7 ∷ pos 8 ∷ [] }
-            ∷ record (corner 2 2) { vals = pos 7 ∷ pos 8 ∷ [] }
-            ∷ [])) ∷ [];
-      },
-    )
-
 -- ---- MOTIONS
 
 -- to the end of the grid, and not past it
@@ -178,61 +131,6 @@ Reverses = reverse_row (face 0 ∷ []) square
       only (faces_only (0 ∷ [])),
       record square {
         faces = Some (face_of (corner 0 3 ∷ corner 3 2 ∷ corner 2 1 ∷ corner 1 0 ∷ [])) ∷ [];
-      },
-    )
-
--- ---- COPIES
-
--- the three triangles of the fin, on a copy of their edge
-abbrev pub Duplicates : Type 0
-Duplicates = duplicate_row (faces_only (0 ∷ 1 ∷ 2 ∷ [])) fin
-    ≡ Ok (
-      record {
-        geom = record {
-          verts = vert 5 ∷ vert 6 ∷ vert 7 ∷ vert 8 ∷ vert 9 ∷ [];
-          edges = edge 7 ∷ edge 8 ∷ edge 9 ∷ edge 10 ∷ edge 11 ∷ edge 12 ∷ edge 13 ∷ [];
-          faces = face 3 ∷ face 4 ∷ face 5 ∷ [];
-        };
-        map = copy_of 0 5 ∷ copy_of 1 6 ∷ copy_of 2 7 ∷ copy_of 3 8 ∷ copy_of 4 9 ∷ [];
-      },
-      record fin {
-        verts = fin.verts ++ fin.verts;
-        edges = fin.edges ++ Some (ends 5 6) ∷ Some (ends 6 7) ∷ Some (ends 7 5) ∷ Some (ends 6 8) ∷ Some (ends 8 5)
-            ∷ Some (ends 6 9) ∷ Some (ends 9 5) ∷ [];
-        faces = fin.faces ++ Some (face_of (corner 5 7 ∷ corner 6 8 ∷ corner 7 9 ∷ []))
-            ∷ Some (face_of (corner 5 7 ∷ corner 6 10 ∷ corner 8 11 ∷ []))
-            ∷ Some (face_of (corner 5 7 ∷ corner 6 12 ∷ corner 9 13 ∷ [])) ∷ [];
-      },
-    )
-
--- the first square of the strip goes to copies of its own; the edge between the squares stays with the second one
-abbrev pub Splits : Type 0
-Splits = split_row (faces_only (0 ∷ [])) strip
-    ≡ Ok (
-      record {
-        geom = record {
-          verts = vert 6 ∷ vert 7 ∷ vert 8 ∷ vert 9 ∷ [];
-          edges = edge 7 ∷ edge 8 ∷ edge 9 ∷ edge 10 ∷ [];
-          faces = face 2 ∷ [];
-        };
-        map = copy_of 0 6 ∷ copy_of 1 7 ∷ copy_of 3 8 ∷ copy_of 4 9 ∷ [];
-      },
-      record strip {
-        verts = erase (erase strip.verts 0) 3 ++ at strip.verts 0 ∷ at strip.verts 1 ∷ at strip.verts 3 ∷ at strip.verts 4
-            ∷ [];
-        edges = erase (erase (erase strip.edges 0) 2) 3
-            ++ Some (ends 6 7) ∷ Some (ends 7 9) ∷ Some (ends 9 8) ∷ Some (ends 8 6) ∷ [];
-        faces = erase strip.faces 0 ++ Some (face_of (corner 6 7 ∷ corner 7 8 ∷ corner 9 9 ∷ corner 8 10 ∷ [])) ∷ [];
-      },
-    )
-
--- a vertex alone, without edges, is copied and goes
-abbrev pub SplitsAVert : Type 0
-SplitsAVert = split_result (verts_only (1 ∷ [])) three_verts
-    ≡ (
-      record { geom = verts_only (3 ∷ []); map = copy_of 1 3 ∷ [] },
-      record three_verts {
-        verts = erase three_verts.verts 1 ++ at three_verts.verts 1 ∷ [];
       },
     )
 
@@ -328,26 +226,6 @@ MakesOtherFaces =
     × (make_face_refusal (replicate 4097 (vert 0)) square ≡ Some (record { why = TooLong; place = place.Nowhere }))
     × (make_face_refusal (replicate 4096 (vert 0)) square ≡ at_vert Repeated 0)
 
--- the second layer of one vertex, an edge's, one face of two; the range; a material that is there, one past the last,
--- and a layer that only has its name
-abbrev pub SetsLayers : Type 0
-SetsLayers =
-    ((set_result kind.Verts (verts_only (1 ∷ [])) (codes "weight") (pos 8 ∷ pos 9 ∷ []) layered).1 ≡ record layered {
-      verts = at layered.verts 0 ∷ Some (record (point (pos 4) (pos 0)) { vals = pos 4 ∷ pos 8 ∷ pos 9 ∷ [] }) ∷ [];
-    })
-    × ((set_result kind.Edges (edges_only (0 ∷ [])) (codes "mark") (negsuc 0 ∷ []) layered).1
-    ≡ record layered { edges = Some (record (ends 0 1) { vals = negsuc 0 ∷ [] }) ∷ [] })
-    × ((set_result kind.Faces (faces_only (1 ∷ [])) (codes "smooth") (pos 2 ∷ []) strip).1
-    ≡ with_face_vals strip (face 1) (pos 0 ∷ pos 2 ∷ []))
-    × (set_refusal kind.Edges (edges_only (0 ∷ [])) (codes "mark") (pos 1000000000 ∷ []) layered ≡ None)
-    × (set_refusal kind.Edges (edges_only (0 ∷ [])) (codes "mark") (pos 1000000001 ∷ []) layered ≡ plainly BadValue)
-    × (set_refusal kind.Faces (faces_only (0 ∷ [])) (codes "material") (pos 1 ∷ [])
-    (record square { materials = codes "wood" ∷ [] }) ≡ None)
-    × (set_refusal kind.Faces (faces_only (0 ∷ [])) (codes "material") (pos 2 ∷ [])
-    (record square { materials = codes "wood" ∷ [] }) ≡ plainly BadValue)
-    × (set_refusal kind.Faces (faces_only (0 ∷ [])) (codes "material") (pos 1 ∷ [])
-    (record square { layers = record no_layers { faces = record material_layer { rule = Mix } ∷ [] } }) ≡ None)
-
 -- the least vertex that leaves, past one that stays; a way longer than the grid
 abbrev pub LeavesTheGrid : Type 0
 LeavesTheGrid =
@@ -383,41 +261,6 @@ MirrorsOthers =
 -- one face of two is turned over
 abbrev pub ReversesOne : Type 0
 ReversesOne = (reverse_result (face 1 ∷ []) strip).1 ≡ reversed_face strip (face 1)
-
--- copies keep values; a loose edge is copied, and split off it goes with both ends
-abbrev pub CopiesValues : Type 0
-CopiesValues =
-    let slots : Slots = record {
-      geom = record { verts = vert 2 ∷ vert 3 ∷ []; edges = edge 1 ∷ []; faces = [] };
-      map = copy_of 0 2 ∷ copy_of 1 3 ∷ [];
-    } in
-    (duplicate_result (edges_only (0 ∷ [])) layered ≡ (
-      slots,
-      record layered {
-        verts = layered.verts ++ layered.verts;
-        edges = layered.edges ++ Some (record (ends 2 3) { vals = pos 7 ∷ [] }) ∷ [];
-      },
-    ))
-    × (split_result (edges_only (0 ∷ [])) layered ≡ (
-      slots,
-      record layered {
-        verts = None ∷ None ∷ layered.verts;
-        edges = None ∷ Some (record (ends 2 3) { vals = pos 7 ∷ [] }) ∷ [];
-      },
-    ))
-
--- and so do faces and corners
-abbrev pub CopiesCorners : Type 0
-CopiesCorners =
-    (duplicate_result (faces_only (0 ∷ [])) (with_face_vals (with_corner_vals triangle (face 0) 1 (pos 7 ∷ pos 8 ∷ []))
-    (face 0) (pos 0 ∷ pos 3 ∷ []))).1.faces
-    ≡ Some (record {
-      corners = corner 0 0 ∷ record (corner 1 1) { vals = pos 7 ∷ pos 8 ∷ [] } ∷ corner 2 2 ∷ [];
-      vals = pos 0 ∷ pos 3 ∷ [];
-    }) ∷ Some (record {
-      corners = corner 3 3 ∷ record (corner 4 4) { vals = pos 7 ∷ pos 8 ∷ [] } ∷ corner 5 5 ∷ [];
-      vals = pos 0 ∷ pos 3 ∷ [];
-    }) ∷ []
 
 -- the boundary stays: all triangles round a vertex, two of them; an edge of three corners with two of them, and with all
 abbrev pub KeepsBoundary : Type 0

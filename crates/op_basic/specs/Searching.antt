@@ -9,7 +9,6 @@ use Rattle.mesh_model.specs.Elements.{Elements}
 use Rattle.mesh_model.specs.Incidence.{edge_joining, sides}
 use Rattle.mesh_model.specs.Lookups.{next_face}
 use Rattle.mesh_model.specs.declared.names.VertName.{VertName}
-use Rattle.mesh_model.specs.declared.names.EdgeName.{EdgeName}
 use Rattle.mesh_model.specs.declared.names.FaceName.{FaceName}
 
 -- a number is equal to the one after it

@@ -1,10 +1,9 @@
 //! Operators on small models, worked out. The checker proves each statement, and no call does anything.
 
-ghost use Rattle.op_basic.specs.Rows.{MakesVerts, MakesFaces, MakesEdges, MakesOtherFaces, SetsValues, SetsCorners};
-ghost use Rattle.op_basic.specs.Rows.{SetsLayers, Translates, LeavesTheGrid, MirrorsAndScales, ScalesAbout};
-ghost use Rattle.op_basic.specs.Rows.{MirrorsOthers, Reverses, ReversesOne, Duplicates, Splits, SplitsAVert};
-ghost use Rattle.op_basic.specs.Rows.{CopiesValues, CopiesCorners, DeletesFaces, DeletesEdges, DeletesVerts};
-ghost use Rattle.op_basic.specs.Rows.{KeepsBoundary, DeletesMore};
+ghost use Rattle.op_basic.specs.Rows.{MakesVerts, MakesFaces, MakesEdges, MakesOtherFaces};
+ghost use Rattle.op_basic.specs.Rows.{Translates, LeavesTheGrid, MirrorsAndScales, ScalesAbout};
+ghost use Rattle.op_basic.specs.Rows.{MirrorsOthers, Reverses, ReversesOne, DeletesFaces, DeletesEdges};
+ghost use Rattle.op_basic.specs.Rows.{DeletesVerts, KeepsBoundary, DeletesMore};
 
 /// Elements made.
 pub fn makes()
@@ -12,13 +11,6 @@ pub fn makes()
     ensures edges { MakesEdges }
     ensures faces { MakesFaces }
     ensures others { MakesOtherFaces }
-{}
-
-/// Values set.
-pub fn sets()
-    ensures values { SetsValues }
-    ensures corners { SetsCorners }
-    ensures layers { SetsLayers }
 {}
 
 /// Vertices moved.
@@ -34,15 +26,6 @@ pub fn moves()
 pub fn reverses()
     ensures all { Reverses }
     ensures one { ReversesOne }
-{}
-
-/// Elements copied.
-pub fn copies()
-    ensures duplicates { Duplicates }
-    ensures values { CopiesValues }
-    ensures corners { CopiesCorners }
-    ensures splits { Splits }
-    ensures vert { SplitsAVert }
 {}
 
 /// Elements deleted.

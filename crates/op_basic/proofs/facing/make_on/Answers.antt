@@ -1,4 +1,4 @@
-use Rattle.std.proofs.Common.{◌≡◌, All, None, sym, ap, subst, ◌∙◌}
+use Rattle.std.proofs.Common.{All, sym, ap, subst, ◌∙◌}
 use Rattle.mesh_model.specs.Table.{IsThere}
 use Rattle.mesh_model.specs.Complex.{Complex}
 use Rattle.mesh_model.specs.declared.names.VertName.{VertName}

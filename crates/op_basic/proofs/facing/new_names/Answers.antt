@@ -1,4 +1,4 @@
-use Rattle.std.proofs.Common.{◌≡◌, ℕ, List, map, sym, ap, ◌∙◌, [], ◌∷◌}
+use Rattle.std.proofs.Common.{ℕ, map, ap, ◌∙◌, [], ◌∷◌}
 use Rattle.std.specs.List.{range_with_len}
 use Rattle.mesh_model.specs.declared.names.EdgeName.{EdgeName}
 use Rattle.mesh_model.specs.declared.names.FaceName.{FaceName}

@@ -1,4 +1,4 @@
-use Rattle.std.proofs.Common.{◌≡◌, [], ◌∷◌, length, get_or, sym, ap, ◌∙◌, arith}
+use Rattle.std.proofs.Common.{[], ◌∷◌, get_or, sym, ◌∙◌, arith}
 use Rattle.mesh_model.specs.Lookups.{least_face}
 use Rattle.mesh_model.specs.Refusals.{unless_too_many}
 use Rattle.mesh_model.specs.declared.names.VertName.{VertName}

@@ -1,5 +1,4 @@
-use Rattle.std.proofs.Common.{◌≡◌, ◌≤◌, ap, ◌∙◌, arith}
-use Rattle.mesh_model.specs.Incidence.{sides}
+use Rattle.std.proofs.Common.{ap, ◌∙◌, arith}
 use Rattle.mesh_model.specs.Refusals.{limit_passed, refused_of}
 use Rattle.mesh_model.specs.declared.records.Counters.{Counters}
 use Rattle.mesh_model.specs.declared.refusal.Why.TheVariants.{TooMany}

@@ -1,4 +1,4 @@
-use Rattle.std.proofs.Common.{◌≡◌, rules, ℕ, List, ◌++◌, map, sym, ap, ◌∙◌, subst, refl, Bool, ◌∷◌, []}
+use Rattle.std.proofs.Common.{rules, ℕ, List, ◌++◌, map, sym, ap, subst, refl, Bool, ◌∷◌, []}
 use Rattle.mesh_cycles.proofs.Mapped.{next_taken}
 use Rattle.mesh_model.specs.Table.{at, passes}
 use Rattle.mesh_model.specs.declared.names.VertName.{VertName}

@@ -1,4 +1,4 @@
-use Rattle.std.proofs.Common.{ℕ, List, eqb, map, sym, ap, ◌∙◌}
+use Rattle.std.proofs.Common.{ap, ◌∙◌}
 use Rattle.std.specs.Prelude.{nat_eq}
 use Rattle.std.specs.Cmp.Lexicographic.{pointwise}
 use Rattle.mesh_model.specs.Table.{at}

@@ -1,4 +1,4 @@
-use Rattle.std.proofs.Common.{◌≡◌, List, map, ap, ◌∙◌}
+use Rattle.std.proofs.Common.{map, ap, ◌∙◌}
 use Rattle.mesh_model.specs.Complex.{corners_of}
 use Rattle.mesh_model.specs.Table.{at}
 use Rattle.mesh_model.specs.declared.names.VertName.{VertName}

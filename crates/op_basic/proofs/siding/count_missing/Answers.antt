@@ -1,4 +1,4 @@
-use Rattle.std.proofs.Common.{◌≡◌, ◌+◌, ◌≤◌, ℕ, length, take, sym, ap, ◌∙◌, arith}
+use Rattle.std.proofs.Common.{◌≡◌, ◌+◌, ℕ, take, sym, ap, ◌∙◌, arith}
 use Rattle.mesh_model.specs.Incidence.{sides}
 use Rattle.mesh_model.specs.declared.names.VertName.{VertName}
 use Rattle.mesh_model.proofs.Polygons.{length-sides}

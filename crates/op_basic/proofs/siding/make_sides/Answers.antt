@@ -1,4 +1,4 @@
-use Rattle.std.proofs.Common.{◌≡◌, List, length, take, get_or, refl, sym, ap, ◌∙◌}
+use Rattle.std.proofs.Common.{List, take, get_or, ap, ◌∙◌}
 use Rattle.std.specs.List.{zip}
 use Rattle.std.proofs.lemmas.List.{take_all}
 use Rattle.mesh_model.specs.Complex.{Complex}

@@ -1,8 +1,6 @@
-use Rattle.std.proofs.Common.{◌≡◌, List, All, ap, sym, subst, ◌∙◌}
+use Rattle.std.proofs.Common.{List, All, ap, sym, subst, ◌∙◌}
 use Rattle.mesh_model.specs.Table.{IsThere}
 use Rattle.mesh_model.specs.Closure.{new_between}
-use Rattle.mesh_model.specs.Complex.{Complex}
-use Rattle.mesh_model.specs.Elements.{Elements}
 use Rattle.mesh_model.specs.Valid.{IsSound}
 use Rattle.mesh_model.specs.declared.names.VertName.{VertName}
 use Rattle.mesh_core.specs.Seen.{now}

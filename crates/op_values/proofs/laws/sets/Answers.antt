@@ -1,6 +1,6 @@
 use Rattle.std.proofs.Common.{refl}
-use Rattle.op_basic.specs.Setting.{with_vert_numbers, with_edge_numbers, with_corner_numbers, with_face_numbers}
-use Rattle.op_basic.proofs.laws.sets.Goals as goal
+use Rattle.op_values.specs.Setting.{with_vert_numbers, with_edge_numbers, with_corner_numbers, with_face_numbers}
+use Rattle.op_values.proofs.laws.sets.Goals as goal
 
 pub returns-clause-values : goal.returns-clause-values
 unfolding with_vert_numbers with_edge_numbers with_corner_numbers with_face_numbers

@@ -1,0 +1,5 @@
+pub mod Puttings
+pub mod LayerNumbers
+pub mod CornerRows
+pub mod SoundRows
+pub mod Settings
