@@ -1,0 +1,2 @@
+pub mod Duplicating
+pub mod Rows
