@@ -6,13 +6,14 @@ use std::alloc::Global;
 use std::test::Fail;
 
 // One face.
-const SQUARE: &str = "v 0 0 0|v 4 0 0|v 4 4 0|v 0 4 0|f 1 2 3 4|";
+pub(crate) const SQUARE: &str = "v 0 0 0|v 4 0 0|v 4 4 0|v 0 4 0|f 1 2 3 4|";
 
 // Two faces side by side: e1 is the edge of both, e0, e2 and e3 are the others of f0, and e4, e5 and e6 those of f1.
-const STRIP: &str = "v 0 0 0|v 4 0 0|v 8 0 0|v 0 4 0|v 4 4 0|v 8 4 0|f 1 2 5 4|f 2 3 6 5|";
+pub(crate) const STRIP: &str =
+    "v 0 0 0|v 4 0 0|v 8 0 0|v 0 4 0|v 4 4 0|v 8 4 0|f 1 2 5 4|f 2 3 6 5|";
 
 // Three faces on the edge e0.
-const FIN: &str = "v 0 0 0|v 0 0 4|v 4 0 0|v 0 4 0|v -4 0 0|f 1 2 3|f 1 2 4|f 1 2 5|";
+pub(crate) const FIN: &str = "v 0 0 0|v 0 0 4|v 4 0 0|v 0 4 0|v -4 0 0|f 1 2 3|f 1 2 4|f 1 2 5|";
 
 // A text with line feeds for bars.
 fn unbarred(alloc: Global, text: &str) -> Result<String, NoMemory> {
@@ -24,7 +25,7 @@ fn unbarred(alloc: Global, text: &str) -> Result<String, NoMemory> {
 }
 
 // Whether a run of a model and a script ends with this status, and makes and prints these texts.
-fn makes(
+pub(crate) fn makes(
     alloc: Global,
     model: &str,
     script: &str,
@@ -61,7 +62,7 @@ fn deletes(
 }
 
 // Whether a command is refused so on the square, which stays as it is.
-fn refuses(alloc: Global, command: &str, why: &str) -> Result<bool, NoMemory> {
+pub(crate) fn refuses(alloc: Global, command: &str, why: &str) -> Result<bool, NoMemory> {
     let printed = format!(in alloc;
         "1 refused {why}|end verts=4 edges=4 faces=1 corners=4 loose=0 refused=1 undo=0 redo=0|"
     )?;

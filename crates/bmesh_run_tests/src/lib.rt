@@ -4,4 +4,8 @@
 #[cfg(test)]
 mod commands;
 #[cfg(test)]
+mod copies;
+#[cfg(test)]
 mod runs;
+#[cfg(test)]
+mod values;

@@ -1,5 +1,5 @@
 -- What an operator answers for a session.
-use Rattle.std.proofs.Common.{◌≡◌, ◌∙◌, ℕ, ℤ, true, List, [], ◌∷◌, Option, Some, None, Result, Ok, Err, refl, sym, ap, subst}
+use Rattle.std.proofs.Common.{◌≡◌, ℕ, ℤ, List, Option, None, Result, Ok, Err, refl, ap, subst}
 use Rattle.mesh_model.specs.Complex.{Complex}
 use Rattle.mesh_model.specs.Elements.{Elements}
 use Rattle.mesh_model.specs.Valid.{IsLinked, IsSound}
@@ -7,17 +7,14 @@ use Rattle.mesh_model.specs.declared.refusal.Refusal.{Refusal}
 use Rattle.mesh_core.specs.Seen.{Seen, now}
 use Rattle.mesh_passes.specs.Answer.{IsReady, AnswerIs, Meets}
 use Rattle.op_slots.specs.Values.{FailsAs, unless_refused}
-use Rattle.op_slots.specs.declared.bindings.Binding.{Binding}
 use Rattle.op_slots.specs.declared.fault.Fault.{Fault}
 use Rattle.op_slots.specs.declared.fault.Fault.TheVariants.{Refused, NoMemory}
-use Rattle.op_slots.specs.declared.op.Op.{Op}
-use Rattle.op_slots.specs.declared.op.Op.TheVariants.{MakeVert, MakeEdge, Translate, Reverse, Delete}
-use Rattle.op_slots.specs.declared.op.Context.{Context}
 use Rattle.op_slots.specs.declared.slots.Slots.{Slots}
-use Rattle.op_slots.specs.declared.term.Term.{Term}
 use Rattle.mesh_model.specs.declared.records.Point.{Point}
 use Rattle.mesh_model.specs.declared.names.VertName.{VertName}
+use Rattle.mesh_model.specs.declared.names.Kind.{Kind}
 use Rattle.op_basic.specs.Motions.{scale_row}
+use Rattle.op_values.specs.Setting.{set_row}
 use Rattle.mesh_session.specs.Operators.{over}
 
 -- the row of an operator, where its argument stands for elements
@@ -65,3 +62,11 @@ pub scaled_over : (named : Result Elements Refusal) (about : Point) (num n den d
 scaled_over named about num n den d old new result a b met =
     subst (λ (k : ℤ). Meets (over named (λ x. scale_row x.verts about k den (now old))) old new result) a
     (subst (λ (k : ℤ). Meets (over named (λ x. scale_row x.verts about n k (now old))) old new result) b met)
+
+-- setting by a name and numbers that are equal
+pub set_equal : (of : Kind) (x : Elements) (n name : List ℕ) (ns values : List ℤ) (old new : Seen)
+    (result : Result Slots Fault) → n ≡ name → ns ≡ values → Meets (set_row of x n ns (now old)) old new result
+    → Meets (set_row of x name values (now old)) old new result
+set_equal of x n name ns values old new result a b met =
+    subst (λ (k : List ℕ). Meets (set_row of x k values (now old)) old new result) a
+    (subst (λ (k : List ℤ). Meets (set_row of x n k (now old)) old new result) b met)

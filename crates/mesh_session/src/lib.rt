@@ -5,6 +5,8 @@ mod entry;
 mod going;
 mod history;
 pub mod laws;
+mod on_elements;
+mod on_lists;
 mod operating;
 mod performing;
 mod reply;

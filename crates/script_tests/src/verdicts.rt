@@ -60,11 +60,22 @@ ok:reverse faces=f0\n\
 1 NotYet:layer points\n\
 1 NotYet:layer verts w width=1 rule=mix\n\
 ok:make_face verts=v0,v1,v2\n\
-1 NotYet:set values=1,-2,3,4 layer=x geom=all of=corners\n\
+ok:set values=1,-2,3,4 layer=x geom=all of=corners\n\
+ok:set of=verts geom=$a.verts layer=a-b+c values=-000000000000000007\n\
+1 MissingArgument:set of=faces geom=all layer=x\n\
+1 UnknownWord:set of=loops\n\
+1 BadNumber:set values=1,2,3,4,5\n\
+1 BadNumber:set values=\n\
+1 BadExpression:set layer=\n\
+1 TwiceGiven:set layer=x layer=\n\
 ok:scale verts=all about=0,0,0 num=3 den=2\n\
 ok:mirror verts=all axis=y about=-0\n\
-1 NotYet:duplicate geom=all\n\
-1 NotYet:split geom=f0,v1\n\
+ok:duplicate geom=all\n\
+ok:b = duplicate geom=e0,v1-v3,all.f,$a\n\
+ok:split geom=f0,v1\n\
+1 MissingArgument:duplicate\n\
+1 UnknownWord:split faces=f0\n\
+1 BadExpression:split geom=$a.map\n\
 1 NotYet:connect verts=v0,v2\n\
 1 NotYet:dissolve_edges edges=e0\n\
 1 NotYet:dissolve_faces faces=all\n\

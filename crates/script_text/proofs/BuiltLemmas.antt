@@ -14,12 +14,15 @@ use Rattle.op_slots.specs.declared.command.Command.{Command}
 use Rattle.script_text.specs.declared.arguments.Arguments.{Arguments}
 use Rattle.script_text.specs.declared.script.Script.{Script}
 use Rattle.script_text.specs.declared.table.OpName.{OpName}
-use Rattle.script_text.specs.declared.table.OpName.TheVariants.{MakeVert, MakeEdge, Mirror, Scale, MakeFace, Translate, Reverse, Delete}
+use Rattle.script_text.specs.declared.table.OpName.TheVariants.{MakeVert, MakeEdge, MakeFace, Set, Translate, Scale}
+use Rattle.script_text.specs.declared.table.OpName.TheVariants.{Mirror, Reverse, Duplicate, Split}
+use Rattle.script_text.specs.declared.table.OpName.TheVariants.{Delete}
 use Rattle.script_text.specs.declared.table.Row.TheVariants.{Operator}
 use Rattle.script_text.specs.declared.fault.ScriptWhy.{ScriptWhy}
 use Rattle.script_text.specs.declared.fault.ScriptWhy.TheVariants.{NotYet, MissingArgument, UnknownWord}
 use Rattle.script_text.specs.declared.fault.ScriptRefusal.{ScriptRefusal}
-use Rattle.script_text.specs.Arguments.{as_point, as_verts, as_geom, as_context, as_axis, as_int}
+use Rattle.script_text.specs.Arguments.{as_point, as_verts, as_geom, as_context, as_axis, as_int, as_kind}
+use Rattle.script_text.specs.Arguments.{as_name, as_ints}
 use Rattle.script_text.specs.Built.{is_op_built, is_built, are_built}
 use Rattle.script_text.specs.Commands.{past, operator_of, what_of, bound_name, command}
 use Rattle.script_text.specs.Laws.{passes}
@@ -76,6 +79,11 @@ op_fine : (name : OpName) (a : Arguments) → is_now name ≡ true → is_fine_o
 op_fine MakeVert a done = with_one (as_point a.first) (λ at. Some (op.MakeVert at)) (λ _. refl)
 op_fine MakeEdge a done = with_one (as_verts a.first) (λ vs. Some (op.MakeEdge vs)) (λ _. refl)
 op_fine MakeFace a done = with_one (as_verts a.first) (λ vs. Some (op.MakeFace vs)) (λ _. refl)
+op_fine Set a done =
+    with_one (as_kind a.first) _
+    (λ of. with_one (as_geom a.second) _
+    (λ g. with_one (as_name a.third) _
+    (λ name. with_one (as_ints a.fourth) (λ values. Some (op.Set of g name values)) (λ _. refl))))
 op_fine Translate a done =
     with_one (as_geom a.first) _
     (λ vs. with_one (as_point a.second) (λ by. Some (op.Translate vs by)) (λ _. refl))
@@ -89,6 +97,8 @@ op_fine Mirror a done =
     (λ vs. with_one (as_axis a.second) _
     (λ axis. with_one (as_int a.third) (λ about. Some (op.Mirror vs axis about)) (λ _. refl)))
 op_fine Reverse a done = with_one (as_geom a.first) (λ fs. Some (op.Reverse fs)) (λ _. refl)
+op_fine Duplicate a done = with_one (as_geom a.first) (λ g. Some (op.Duplicate g)) (λ _. refl)
+op_fine Split a done = with_one (as_geom a.first) (λ g. Some (op.Split g)) (λ _. refl)
 op_fine Delete a done =
     with_one (as_geom a.first) _ (λ g. with_one (as_context a.second) (λ c. Some (op.Delete g c)) (λ _. refl))
 op_fine _ a done = absurd (false≢true done)

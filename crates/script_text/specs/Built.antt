@@ -16,10 +16,13 @@ abbrev pub is_op_built : Op → Bool
 is_op_built (op.MakeVert at) = true
 is_op_built (op.MakeEdge verts) = true
 is_op_built (op.MakeFace verts) = true
+is_op_built (op.Set of geom layer values) = true
 is_op_built (op.Translate verts by) = true
 is_op_built (op.Scale verts about num den) = true
 is_op_built (op.Mirror verts axis about) = true
 is_op_built (op.Reverse faces) = true
+is_op_built (op.Duplicate geom) = true
+is_op_built (op.Split geom) = true
 is_op_built (op.Delete geom context) = true
 is_op_built _ = false
 

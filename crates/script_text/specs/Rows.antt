@@ -8,7 +8,8 @@ use Rattle.op_slots.specs.declared.term.Term.{Term}
 use Rattle.op_slots.specs.declared.term.Term.TheVariants.{One, Range, All, Slot}
 use Rattle.op_slots.specs.declared.op.Op.{Op}
 use Rattle.op_slots.specs.declared.op.Axis.TheVariants.{Y}
-use Rattle.op_slots.specs.declared.op.Op.TheVariants.{Delete, MakeVert, MakeEdge, Mirror, Scale, MakeFace, Translate, Reverse}
+use Rattle.op_slots.specs.declared.op.Op.TheVariants.{MakeVert, MakeEdge, MakeFace, Set, Translate, Scale}
+use Rattle.op_slots.specs.declared.op.Op.TheVariants.{Mirror, Reverse, Duplicate, Split, Delete}
 use Rattle.op_slots.specs.declared.command.What.{What}
 use Rattle.op_slots.specs.declared.command.What.TheVariants.{Run, Undo, Redo}
 use Rattle.text_words.specs.Text.{words}
@@ -72,10 +73,14 @@ Others =
     ≡ ran (Translate (All None ∷ []) (record { x = pos 0; y = pos 0; z = negsuc 0 })))
     × (script_of (codes "make_face verts=v2,v0,v1")
     ≡ ran (MakeFace (record { 0 = 2 } ∷ record { 0 = 0 } ∷ record { 0 = 1 } ∷ [])))
+    × (script_of (codes "set values=1,-2 layer=uv geom=all of=corners")
+    ≡ ran (Set kind.Corners (All None ∷ []) (codes "uv") (pos 1 ∷ negsuc 1 ∷ [])))
     × (script_of (codes "scale den=2 num=-3 about=0,0,4 verts=all")
     ≡ ran (Scale (All None ∷ []) (record { x = pos 0; y = pos 0; z = pos 4 }) (negsuc 2) (pos 2)))
     × (script_of (codes "mirror verts=all axis=y about=-1") ≡ ran (Mirror (All None ∷ []) Y (negsuc 0)))
     × (script_of (codes "reverse faces=f0") ≡ ran (Reverse first_face))
+    × (script_of (codes "duplicate geom=f0") ≡ ran (Duplicate first_face))
+    × (script_of (codes "split geom=f0") ≡ ran (Split first_face))
     × (script_of (codes "undo") ≡ given None Undo)
     × (script_of (codes "redo # so") ≡ given None Redo)
 

@@ -56,13 +56,13 @@ macro_rules! with_operators {
             MakeVert b"make_vert" now { at b"at" Point }
             MakeEdge b"make_edge" now { verts b"verts" Verts }
             MakeFace b"make_face" now { verts b"verts" Verts }
-            Set b"set" later { of b"of" Kind, geom b"geom" Geom, layer b"layer" Name, values b"values" Ints }
+            Set b"set" now { of b"of" Kind, geom b"geom" Geom, layer b"layer" Name, values b"values" Ints }
             Translate b"translate" now { verts b"verts" Geom, by b"by" Point }
             Scale b"scale" now { verts b"verts" Geom, about b"about" Point, num b"num" Int, den b"den" Int }
             Mirror b"mirror" now { verts b"verts" Geom, axis b"axis" Axis, about b"about" Int }
             Reverse b"reverse" now { faces b"faces" Geom }
-            Duplicate b"duplicate" later { geom b"geom" Geom }
-            Split b"split" later { geom b"geom" Geom }
+            Duplicate b"duplicate" now { geom b"geom" Geom }
+            Split b"split" now { geom b"geom" Geom }
             Delete b"delete" now { geom b"geom" Geom, context b"context" Context }
             Connect b"connect" later { verts b"verts" Verts }
             DissolveEdges b"dissolve_edges" later { edges b"edges" Geom }

@@ -6,7 +6,7 @@ use Rattle.mesh_core.specs.Seen.{now}
 use Rattle.op_slots.specs.declared.resolving.want.Want.TheVariants as want
 use Rattle.mesh_session.proofs.Arguments.{resolved_live}
 use Rattle.mesh_session.proofs.Performances.{looked_up, unresolved, scaled_by}
-use Rattle.mesh_session.proofs.operating.scale_all.Goals as goal
+use Rattle.mesh_session.proofs.on_elements.scale_all.Goals as goal
 
 pub scale-requires-clause-live : goal.scale-requires-clause-live
 scale-requires-clause-live c =

@@ -2,7 +2,7 @@ use Rattle.mesh_core.specs.Seen.{now}
 use Rattle.mesh_session.specs.Operators.{kind_wanted}
 use Rattle.mesh_session.proofs.Arguments.{resolved_live}
 use Rattle.mesh_session.proofs.Performances.{looked_up, unresolved}
-use Rattle.mesh_session.proofs.operating.delete_all.Goals as goal
+use Rattle.mesh_session.proofs.on_elements.delete_all.Goals as goal
 
 pub delete-requires-clause-live : goal.delete-requires-clause-live
 delete-requires-clause-live c =

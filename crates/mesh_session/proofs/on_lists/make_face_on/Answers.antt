@@ -9,7 +9,7 @@ use Rattle.op_basic.specs.Making.{make_face_row}
 use Rattle.op_slots.specs.Values.{list_refusal}
 use Rattle.mesh_session.proofs.Arguments.{list_live}
 use Rattle.mesh_session.proofs.Performances.{listed}
-use Rattle.mesh_session.proofs.operating.make_face_on.Goals as goal
+use Rattle.mesh_session.proofs.on_lists.make_face_on.Goals as goal
 
 -- nothing is refused of a list that is read as a slice
 free : (c : Complex) (slice verts : List VertName) (refusal : Option Refusal) → slice ≡ verts
