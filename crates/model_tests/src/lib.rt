@@ -18,4 +18,6 @@ mod many;
 #[cfg(test)]
 mod reading;
 #[cfg(test)]
+mod sums;
+#[cfg(test)]
 mod texts;
