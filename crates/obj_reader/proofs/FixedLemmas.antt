@@ -24,7 +24,6 @@ use Rattle.obj_reader.specs.Statements.{statement, line_adds}
 use Rattle.obj_format.specs.Table.{word_of}
 use Rattle.obj_reader.specs.Values.{uncommented, point_of, texture_of, is_normal, smooth_of, vert_of, ring_of, wire_of}
 use Rattle.obj_reader.specs.Values.{dots_of}
-use Rattle.obj_format.specs.Fixed.{BeginsFixed}
 use Rattle.obj_reader.proofs.AlongLemmas.{layers-along}
 
 -- what is made has the fixed layers
@@ -105,10 +104,8 @@ model_on : (r : Result Parts ObjRefusal) (c : Complex) → AreFixed r → model_
 model_on (Err v) c same read = absurd (cc)
 model_on (Ok s) c same read = let it : s.draft ≡ c = cc in rw it at same
 
--- the complex of a text begins with the fixed layers
+-- the complex of a text has the fixed layers
 pub model_fixed : (scale : ℕ) (text : List ℕ) (c : Complex)
-    → model_of (steps (line_read scale) nothing (joined text)) ≡ Ok c → BeginsFixed c
+    → model_of (steps (line_read scale) nothing (joined text)) ≡ Ok c → c.layers ≡ fixed_layers
 model_fixed scale text c read =
-    let same : c.layers ≡ fixed_layers =
-    model_on (steps (line_read scale) nothing (joined text)) c (steps_fixed scale (joined text) nothing refl) read in
-    record { corners = rw same refl; faces = rw same refl }
+    model_on (steps (line_read scale) nothing (joined text)) c (steps_fixed scale (joined text) nothing refl) read

@@ -1,5 +1,6 @@
 //! A model read piece by piece.
 ghost use Rattle.std.specs.Prelude.{◌≡◌, ◌≤◌, ◌++◌, ℕ, List, Err, [], length, IfOk, OnOk, OnErr, IsErr};
+ghost use Rattle.mesh_model.specs.Complex.{fixed_layers};
 ghost use Rattle.mesh_model.specs.Valid.{IsSound};
 ghost use Rattle.text_words.specs.Verdict.{Answers};
 ghost use Rattle.obj_format.specs.Faults.{refusal_of};
@@ -10,7 +11,6 @@ ghost use Rattle.obj_reader.specs.Obj.{nothing, line_read, model_of, read_text};
 ghost use Rattle.obj_reader.specs.Progress.{start, step};
 ghost use Rattle.obj_reader.specs.Holding.{AreParts};
 ghost use Rattle.obj_reader.specs.Reading.{IsFed, IsLost};
-ghost use Rattle.obj_format.specs.Fixed.{BeginsFixed};
 
 use crate::marks::Marks;
 use crate::physical::{Progress, finish, read_physical_line};
@@ -85,13 +85,13 @@ impl Reader {
     /// from left to right; `TooShort`; `TooLong`; `Repeated`; `TooMany` where a limit would be passed.
     ///
     /// Vertices and faces are named from 0 in order, edges in order of first use with the ends in the direction of
-    /// that use. The draft's layers begin with those that every model has from its beginning.
+    /// that use. The draft's layers are those that every model has from its beginning.
     pub fn end(self) -> Result<Draft, ObjFault>
         ensures told { (scale : ℕ) (bytes : List ℕ) → IsFed scale bytes self
             → Answers refusal_of result (read_text scale bytes) }
         ensures lost { IsLost self → result ≡ Err ObjFault.NoMemory }
         ensures sound { IfOk result (λ d. IsSound d) }
-        ensures fixed { IfOk result (λ d. BeginsFixed d) }
+        ensures fixed { IfOk result (λ d. d.layers ≡ fixed_layers) }
     {
         let Reader { alloc, scale, fed } = self;
         match fed {
@@ -106,7 +106,7 @@ fn read(alloc: Global, scale: u8, text: &[u8]) -> Result<Draft, ObjFault>
     requires { scale ≤ 6 }
     ensures told { Answers refusal_of result (read_text scale text.now) }
     ensures sound { IfOk result (λ d. IsSound d) }
-    ensures fixed { IfOk result (λ d. BeginsFixed d) }
+    ensures fixed { IfOk result (λ d. d.layers ≡ fixed_layers) }
 {
     if MOST_BYTES < text.len() {
         return Err(ObjFault::Refused(ObjRefusal {

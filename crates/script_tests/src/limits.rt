@@ -1,4 +1,5 @@
 //! Texts, commands and terms as many as may be, with ample memory, and one more.
+ghost use Rattle.std.specs.Prelude.{◌<◌};
 
 use crate::confirm::confirm;
 use script_text::{LONGEST_SCRIPT, MOST_TERMS, ScriptFault, parse};
@@ -94,5 +95,46 @@ fn most_terms(rt: HostRuntime) -> Result<(), Fail> {
         "one more is BadExpression",
         is_refused(rt.alloc(), &text, 1, 6)?,
     );
+    Ok(())
+}
+
+// So many declarations of layers of a kind, each with its own name.
+fn declarations(alloc: Global, kind: &str, count: u8) -> Result<Vec<u8>, NoMemory> {
+    let mut text = Vec::new(alloc);
+    for k in 0..count {
+        let line = format!(in alloc; "layer {kind} w{k} width=1 rule=mix\n")?;
+        text.extend_from_slice(line.as_bytes())?;
+    }
+    Ok(text)
+}
+
+// Whether a text is a script of so many layers.
+fn has_layers(alloc: Global, text: &[u8], count: u8) -> Result<bool, NoMemory> {
+    match parse(alloc, text) {
+        Ok(script) => Ok(script.layers.len() == count as usize && script.commands.is_empty()),
+        Err(ScriptFault::Refused(_)) => Ok(false),
+        Err(ScriptFault::NoMemory) => Err(NoMemory),
+    }
+}
+
+// Whether so many layers of a kind are read, and one more is BadLayer.
+fn are_most(alloc: Global, kind: &str, count: u8) -> Result<bool, NoMemory>
+    requires { count < 255 }
+{
+    let most = declarations(alloc, kind, count)?;
+    let more = declarations(alloc, kind, count + 1)?;
+    Ok(has_layers(alloc, &most, count)? && is_refused(alloc, &more, count as u32 + 1, 11)?)
+}
+
+#[test]
+fn most_layers(rt: HostRuntime) -> Result<(), Fail> {
+    let verts = are_most(rt.alloc(), "verts", 16)?;
+    confirm(&rt, "sixteen of vertices", verts);
+    let edges = are_most(rt.alloc(), "edges", 16)?;
+    confirm(&rt, "sixteen of edges", edges);
+    let corners = are_most(rt.alloc(), "corners", 15)?;
+    confirm(&rt, "fifteen of corners beside the fixed one", corners);
+    let faces = are_most(rt.alloc(), "faces", 14)?;
+    confirm(&rt, "fourteen of faces beside the fixed two", faces);
     Ok(())
 }

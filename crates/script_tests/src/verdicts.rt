@@ -56,9 +56,40 @@ ok:reverse faces=f0\n\
 1 UnknownWord:mirror verts=all axis=w about=0\n\
 1 MissingArgument:mirror verts=all axis=z\n\
 1 BadNumber:mirror about=z\n\
-1 NotYet:layer\n\
-1 NotYet:layer points\n\
-1 NotYet:layer verts w width=1 rule=mix\n\
+1 MissingArgument:layer\n\
+1 MissingArgument:layer verts\n\
+1 MissingArgument:layer verts w\n\
+1 MissingArgument:layer verts w width=1\n\
+1 MissingArgument:layer verts w rule=mix\n\
+1 MissingArgument:layer verts w width=9\n\
+ok:layer verts w width=1 rule=mix\n\
+ok:layer edges w rule=copy width=4 # so\n\
+ok:layer corners = width=2 rule=mix|layer faces w width=3 rule=copy\n\
+ok:layer verts uv width=1 rule=mix|layer edges material width=1 rule=mix|layer corners smooth width=1 rule=mix\n\
+ok:layer verts w width=1 rule=mix||layer edges w width=1 rule=mix|a = delete geom=v0\n\
+ok:layer verts w width=004 rule=copy\n\
+ok:layer verts abcdefghijklmnopqrstuvwxyzabcdefghijklmnopqrstuvwxyzABCDEFGHI-! width=1 rule=mix\n\
+1 UnknownWord:layer points\n\
+1 UnknownWord:layer vert w width=1 rule=mix\n\
+1 UnknownWord:layer all w width=1 rule=mix\n\
+1 UnknownWord:layer verts w 1 mix\n\
+1 UnknownWord:layer verts w wide=1 rule=mix\n\
+1 UnknownWord:layer verts w rule=Mix width=x\n\
+1 UnknownWord:layer verts w rule= width=1\n\
+1 TwiceGiven:layer verts w width=1 width=x rule=mix\n\
+1 TwiceGiven:layer verts w rule=mix width=1 rule=mix\n\
+1 BadNumber:layer verts w width=x\n\
+1 BadNumber:layer verts w width= rule=mix\n\
+1 BadExpression:layer verts abcdefghijklmnopqrstuvwxyzabcdefghijklmnopqrstuvwxyzABCDEFGHI-!x width=1 rule=mix\n\
+1 BadLayer:layer verts w width=0 rule=mix\n\
+1 BadLayer:layer verts w width=5 rule=mix\n\
+1 BadLayer:layer verts w width=-1 rule=mix\n\
+1 BadLayer:layer verts w width=256 rule=mix\n\
+1 BadLayer:layer corners uv width=2 rule=mix\n\
+1 BadLayer:layer faces material width=1 rule=copy\n\
+1 BadLayer:layer faces smooth width=4 rule=mix\n\
+2 BadLayer:layer verts w width=1 rule=mix|layer verts w width=2 rule=copy\n\
+3 BadLayer:layer edges w width=1 rule=mix||layer edges w width=1 rule=mix|x\n\
 ok:make_face verts=v0,v1,v2\n\
 ok:set values=1,-2,3,4 layer=x geom=all of=corners\n\
 ok:set of=verts geom=$a.verts layer=a-b+c values=-000000000000000007\n\

@@ -1,10 +1,9 @@
 -- Each command of a script is one that a session can do.
-use Rattle.std.proofs.Common.{◌≡◌, ℕ, ◌+◌, Bool, true, false, cond, not, ◌&&◌, ◌||◌, List, [], ◌∷◌, ◌++◌, refl}
-use Rattle.std.proofs.Common.{Option, Some, None, Result, Ok, Err, is_some, leb, length, ◌==◌, codes}
+use Rattle.std.proofs.Common.{◌≡◌, ℕ, Bool, true, false, cond, not, ◌&&◌, ◌||◌, List, [], ◌∷◌, ◌++◌, refl}
+use Rattle.std.proofs.Common.{Option, Some, None, Ok, Err, is_some, leb, length, ◌==◌, codes}
 use Rattle.std.specs.Prelude.{option_and_then}
 use Rattle.std.proofs.lemmas.Bool.{false≢true}
-use Rattle.std.specs.List.{list_all}
-use Rattle.text_words.specs.Text.{is_text, lines, words}
+use Rattle.text_words.specs.Text.{is_text}
 use Rattle.text_words.specs.Outcome.{◌>>=◌, ok_or}
 use Rattle.op_slots.specs.declared.op.Op.{Op}
 use Rattle.op_slots.specs.declared.op.Op.TheVariants as op
@@ -20,36 +19,17 @@ use Rattle.script_text.specs.declared.table.OpName.TheVariants.{Delete}
 use Rattle.script_text.specs.declared.table.Row.TheVariants.{Operator}
 use Rattle.script_text.specs.declared.fault.ScriptWhy.{ScriptWhy}
 use Rattle.script_text.specs.declared.fault.ScriptWhy.TheVariants.{NotYet, MissingArgument, UnknownWord}
-use Rattle.script_text.specs.declared.fault.ScriptRefusal.{ScriptRefusal}
 use Rattle.script_text.specs.Arguments.{as_point, as_verts, as_geom, as_context, as_axis, as_int, as_kind}
 use Rattle.script_text.specs.Arguments.{as_name, as_ints}
 use Rattle.script_text.specs.Built.{is_op_built, is_built, are_built}
 use Rattle.script_text.specs.Commands.{past, operator_of, what_of, bound_name, command}
 use Rattle.script_text.specs.Laws.{passes}
-use Rattle.script_text.specs.Lines.{plain, statement, uncommented, is_text_byte, line}
 use Rattle.script_text.specs.Rowed.{arguments_of}
-use Rattle.script_text.specs.Script.{empty, at_line, script_of_lines, script_of}
+use Rattle.script_text.specs.Script.{script_of}
 use Rattle.script_text.specs.Table.{op_named, is_now, op_of}
+use Rattle.script_text.proofs.KeptLemmas.{passes_on, passes_any, either, layer_kept, script_kept}
 
--- ---- OUTCOMES
-
--- a step behind one whose value passes a test
-passes_on : {A B : Type 0} (q : A → Bool) (p : B → Bool) (r : Result A ScriptWhy) (f : A → Result B ScriptWhy)
-    → passes q r ≡ true → ((a : A) → q a ≡ true → passes p (f a) ≡ true) → passes p (r >>= f) ≡ true
-passes_on q p (Ok a) f had then_ = then_ a had
-passes_on q p (Err w) f had then_ = refl
-
--- a step behind any other
-passes_any : {A B : Type 0} (p : B → Bool) (r : Result A ScriptWhy) (f : A → Result B ScriptWhy)
-    → ((a : A) → passes p (f a) ≡ true) → passes p (r >>= f) ≡ true
-passes_any p (Ok a) f then_ = then_ a
-passes_any p (Err w) f then_ = refl
-
--- a choice of two
-either : {A E : Type 0} (p : A → Bool) (b : Bool) (x y : Result A E) → passes p x ≡ true → passes p y ≡ true
-    → passes p (cond b x y) ≡ true
-either p true x y one other = one
-either p false x y one other = other
+-- ---- TESTS
 
 and : (a b : Bool) → a ≡ true → b ≡ true → (a && b) ≡ true
 and true b one other = other
@@ -150,39 +130,7 @@ command_built number name ws s were =
     (λ bind. passes_on is_built is_built_script (what_of (is_some name) ws) _ (words_built (is_some name) ws)
     (λ what is. more_built s.commands (record { line = number; bind = bind; what = what }) were is)))
 
-plain_built : (number : ℕ) (w : List ℕ) (ws : List (List ℕ)) (s : Script) → is_built_script s ≡ true
-    → passes is_built_script (plain number w ws s) ≡ true
-plain_built number w ws s were =
-    either is_built_script (is_text (codes "layer") w) _ _
-    (either is_built_script (not (length s.commands == 0)) _ _ refl refl) (command_built number None (w ∷ ws) s were)
-
-statement_built : (number : ℕ) (ws : List (List ℕ)) (s : Script) → is_built_script s ≡ true
-    → passes is_built_script (statement number ws s) ≡ true
-statement_built number [] s were = were
-statement_built number (w ∷ []) s were = plain_built number w [] s were
-statement_built number (w ∷ x ∷ ws) s were =
-    either is_built_script (is_text (codes "=") x) _ _ (command_built number (Some w) ws s were)
-    (plain_built number w (x ∷ ws) s were)
-
-line_built : (number : ℕ) (text : List ℕ) (s : Script) → is_built_script s ≡ true
-    → passes is_built_script (line number text s) ≡ true
-line_built number text s were =
-    either is_built_script (not (list_all is_text_byte text)) _ _ refl
-    (statement_built number (words (uncommented text)) s were)
-
-at_line_built : (number : ℕ) (r : Result Script ScriptWhy) (f : Script → Result Script ScriptRefusal)
-    → passes is_built_script r ≡ true
-    → ((s : Script) → is_built_script s ≡ true → passes is_built_script (f s) ≡ true)
-    → passes is_built_script (at_line number r f) ≡ true
-at_line_built number (Err why) f had then_ = refl
-at_line_built number (Ok s) f had then_ = then_ s had
-
-lines_built : (k : ℕ) (s : Script) (ls : List (List ℕ)) → is_built_script s ≡ true
-    → passes is_built_script (script_of_lines k s ls) ≡ true
-lines_built k s [] were = were
-lines_built k s (l ∷ ls) were =
-    at_line_built (k + 1) (line (k + 1) l s) _ (line_built (k + 1) l s were)
-    (λ t built. lines_built (k + 1) t ls built)
-
 pub script_built : (text : List ℕ) → passes is_built_script (script_of text) ≡ true
-script_built text = either is_built_script (leb (length text) 1048576) _ _ (lines_built 0 empty (lines text) refl) refl
+script_built =
+    script_kept is_built_script
+    (record { commands = command_built; layers = λ ws s were. layer_kept is_built_script ws s (λ d free. were) }) refl

@@ -2,3 +2,5 @@ pub mod EachLemmas
 pub mod ScriptLemmas
 pub mod LayerLemmas
 pub mod BuiltLemmas
+pub mod KeptLemmas
+pub mod DeclaredLemmas

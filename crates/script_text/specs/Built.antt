@@ -7,10 +7,6 @@ use Rattle.op_slots.specs.declared.command.Command.{Command}
 use Rattle.op_slots.specs.declared.command.What.{What}
 use Rattle.op_slots.specs.declared.command.What.TheVariants.{Run, Undo, Redo}
 
--- layers are declared
-abbrev pub layers : Bool
-layers = false
-
 -- the operators that a session can do
 abbrev pub is_op_built : Op → Bool
 is_op_built (op.MakeVert at) = true

@@ -1,9 +1,9 @@
 -- Declarations of layers: what each adds to the script before it, or its fault.
 use Rattle.std.specs.Prelude.{ℕ, ℤ, pos, negsuc, ◌==◌, ◌&&◌, Bool, not, nat_le, if◌then◌else◌, is_some, List, [], ◌∷◌}
-use Rattle.std.specs.Prelude.{◌++◌, length, Option, Some, None, Result, Ok, Err}
+use Rattle.std.specs.Prelude.{◌++◌, ◌≡◌, length, Option, Some, None, Result, Ok, Err}
 use Rattle.std.specs.List.{fold}
 use Rattle.mesh_model.specs.Complex.{KindLayers, fixed_layers}
-use Rattle.mesh_model.specs.Declaring.{with_layer_declared, declaration_fault}
+use Rattle.mesh_model.specs.Declaring.{with_layer_declared, declaration_fault, first_declaration_fault}
 use Rattle.mesh_model.specs.declared.names.Kind.{Kind}
 use Rattle.mesh_model.specs.declared.layer_decl.LayerDecl.{LayerDecl}
 use Rattle.cust_data.specs.declared.rule.Rule.{Rule}
@@ -12,9 +12,8 @@ use Rattle.script_text.specs.declared.table.Row.TheVariants.{Layer}
 use Rattle.script_text.specs.declared.script.Script.{Script}
 use Rattle.script_text.specs.declared.fault.ScriptWhy.{ScriptWhy}
 use Rattle.script_text.specs.declared.fault.ScriptWhy.TheVariants.{UnknownWord, MissingArgument, BadExpression}
-use Rattle.script_text.specs.declared.fault.ScriptWhy.TheVariants.{LateLayer, BadLayer, NotYet}
+use Rattle.script_text.specs.declared.fault.ScriptWhy.TheVariants.{LateLayer, BadLayer}
 use Rattle.script_text.specs.Arguments.{as_int, as_rule}
-use Rattle.script_text.specs.Built.{layers}
 use Rattle.script_text.specs.Rowed.{arguments_of}
 use Rattle.script_text.specs.Values.{kind_of, layer_name}
 
@@ -56,7 +55,10 @@ layer_words (k ∷ n ∷ ws) s = do
   rule ← ok_or (as_rule a.second) MissingArgument
   added kind name width rule s
 
--- a declaration, before the first command, where layers are declared so far
+-- a declaration, before the first command
 abbrev pub layer : List (List ℕ) → Script → Result Script ScriptWhy
-layer ws s =
-    if not (length s.commands == 0) then Err LateLayer else if not layers then Err NotYet else layer_words ws s
+layer ws s = if not (length s.commands == 0) then Err LateLayer else layer_words ws s
+
+-- layers can be declared one after another, behind the fixed ones
+abbrev pub AreDeclarable : List LayerDecl → Type 0
+AreDeclarable ds = first_declaration_fault fixed_layers ds ≡ None

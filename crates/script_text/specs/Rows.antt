@@ -1,7 +1,10 @@
 -- What some small scripts are.
 use Rattle.std.specs.Prelude.{◌≡◌, ℕ, pos, negsuc, codes, List, [], ◌∷◌, ◌++◌, Option, Some, None, Result, Ok, Err}
 use Rattle.mesh_model.specs.declared.names.Elem.TheVariants.{Vert, Face}
+use Rattle.mesh_model.specs.declared.names.Kind.{Kind}
 use Rattle.mesh_model.specs.declared.names.Kind.TheVariants as kind
+use Rattle.cust_data.specs.declared.rule.Rule.{Rule}
+use Rattle.cust_data.specs.declared.rule.Rule.TheVariants.{Mix, Copy}
 use Rattle.op_slots.specs.declared.op.Context.TheVariants as context
 use Rattle.op_slots.specs.declared.op.Method.TheVariants.{Ear}
 use Rattle.op_slots.specs.declared.term.Term.{Term}
@@ -24,9 +27,8 @@ use Rattle.script_text.specs.declared.fault.ScriptWhy.TheVariants.{TwiceGiven, M
 use Rattle.script_text.specs.declared.fault.ScriptWhy.TheVariants.{BadExpression, BadLayer, Rebound, UnknownWord, NotYet}
 use Rattle.script_text.specs.declared.fault.ScriptRefusal.{ScriptRefusal}
 use Rattle.script_text.specs.Arguments.{nothing}
-use Rattle.script_text.specs.Layers.{layer_words}
 use Rattle.script_text.specs.Rowed.{arguments_of}
-use Rattle.script_text.specs.Script.{script_of, empty}
+use Rattle.script_text.specs.Script.{script_of}
 
 -- one command, on the first line
 abbrev given : Option (List ℕ) → What → Result Script ScriptRefusal
@@ -103,7 +105,6 @@ abbrev pub Later : Type 0
 Later =
     (script_of (codes "poke") ≡ refused NotYet)
     × (script_of (codes "a = poke faces=") ≡ refused NotYet)
-    × (script_of (codes "layer points") ≡ refused NotYet)
 
 -- the arguments of an operator, also of one that can't be done yet
 abbrev words_of : OpName → List ℕ → Result Arguments ScriptWhy
@@ -120,11 +121,22 @@ Values =
     × (words_of Poke (codes "faces=all faces=") ≡ Err TwiceGiven)
     × (words_of Bridge (codes "b=all c=all") ≡ Err UnknownWord)
 
--- declarations, for when they can be done
+-- one layer, on the first line
+abbrev layered : Kind → List ℕ → ℕ → Rule → Result Script ScriptRefusal
+layered of name width rule =
+    Ok (record { layers = record { kind = of; name = name; width = width; rule = rule } ∷ []; commands = [] })
+
+-- layers of each kind, keys in any order, and faults of declarations
 abbrev pub Declarations : Type 0
 Declarations =
-    (layer_words (words (codes "verts w width=5 rule=mix")) empty ≡ Err BadLayer)
-    × (layer_words (words (codes "corners uv width=2 rule=mix")) empty ≡ Err BadLayer)
-    × (layer_words (words (codes "verts w width=x")) empty ≡ Err BadNumber)
-    × (layer_words (words (codes "verts w width=9")) empty ≡ Err MissingArgument)
-    × (layer_words (words (codes "points")) empty ≡ Err UnknownWord)
+    (script_of (codes "layer verts w width=1 rule=mix") ≡ layered kind.Verts (codes "w") 1 Mix)
+    × (script_of (codes "layer edges uv rule=copy width=2") ≡ layered kind.Edges (codes "uv") 2 Copy)
+    × (script_of (codes "layer corners = width=4 rule=mix # so") ≡ layered kind.Corners (codes "=") 4 Mix)
+    × (script_of (codes "layer faces w width=3 rule=copy") ≡ layered kind.Faces (codes "w") 3 Copy)
+    × (script_of (codes "layer verts w width=5 rule=mix") ≡ refused BadLayer)
+    × (script_of (codes "layer corners uv width=2 rule=mix") ≡ refused BadLayer)
+    × (script_of (codes "layer verts w width=1 rule=mix" ++ 10 ∷ codes "layer verts w width=2 rule=copy")
+    ≡ Err (record { line = 2; why = BadLayer }))
+    × (script_of (codes "layer verts w width=x") ≡ refused BadNumber)
+    × (script_of (codes "layer verts w width=9") ≡ refused MissingArgument)
+    × (script_of (codes "layer points") ≡ refused UnknownWord)

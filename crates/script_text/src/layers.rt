@@ -18,9 +18,6 @@ use sequence::Text;
 use std::alloc::Global;
 use text_words::{Stop, or_fault};
 
-// Whether a session can declare layers so far.
-const LAYERS: bool = false;
-
 fn width_of(width: i64) -> Option<u8>
     ensures { result ≡ width_of width }
 {
@@ -186,9 +183,6 @@ pub(crate) fn layer(
 {
     if !script.commands.is_empty() {
         return Err(Stop::Fault(ScriptWhy::LateLayer));
-    }
-    if !LAYERS {
-        return Err(Stop::Fault(ScriptWhy::NotYet));
     }
     layer_words(alloc, words, script)
 }

@@ -1,7 +1,8 @@
 //! A text read as a script.
-ghost use Rattle.std.specs.Prelude.{◌≡◌, ◌≤◌, length, map};
+ghost use Rattle.std.specs.Prelude.{◌≡◌, ◌≤◌, length, map, IfOk};
 ghost use Rattle.text_words.specs.Verdict.{Answers};
 ghost use Rattle.script_text.specs.Faults.{refusal_of};
+ghost use Rattle.script_text.specs.Layers.{AreDeclarable};
 ghost use Rattle.script_text.specs.Script.{stopped, empty, script_of_lines, script_of};
 
 use crate::fault::{ScriptFault, ScriptRefusal, ScriptWhy};
@@ -19,9 +20,10 @@ pub const LONGEST_SCRIPT: usize = 1_048_576;
 ///
 /// Refused `TooLarge` at line 0 where the text has more than 1,048,576 bytes, and else at the first line with a
 /// fault, with the first fault of that line. Fails otherwise only for want of memory. Takes time and memory in
-/// proportion to the text.
+/// proportion to the text. The layers of a script can be declared behind those that every model has from its beginning.
 pub fn parse(alloc: Global, text: &[u8]) -> Result<Script, ScriptFault>
-    ensures { Answers refusal_of result (script_of text.now) }
+    ensures read { Answers refusal_of result (script_of text.now) }
+    ensures layers { IfOk result (λ s. AreDeclarable s.layers) }
 {
     if text.len() > LONGEST_SCRIPT {
         return Err(refused(0, ScriptWhy::TooLarge));
