@@ -1,12 +1,18 @@
 -- Commands keep the layers that every model has from its beginning.
 use Rattle.std.proofs.Common.{◌≡◌, ◌∙◌, ℕ, Bool, true, false, List, [], ◌∷◌, ◌++◌, Result, Ok, Err, refl, sym, ap, subst}
+use Rattle.std.proofs.Common.{take}
 use Rattle.std.specs.Prelude.{reverse, if◌then◌else◌}
 use Rattle.std.specs.List.{All}
 use Rattle.std.specs.declared.option.Option.{Option}
 use Rattle.std.specs.declared.option.Option.TheVariants.{Some}
 use Rattle.std.proofs.lemmas.List.{reverse-append, reverse-reverse}
 use Rattle.std.proofs.lemmas.List.Elements.{All-nil, All-push, All-pop}
-use Rattle.mesh_model.specs.Complex.{Complex}
+use Rattle.cust_data.specs.Layers.{Layer}
+use Rattle.mesh_model.specs.Complex.{Complex, fixed_layers}
+use Rattle.mesh_model.specs.Declaring.{layer_of, with_declared, with_all_declared}
+use Rattle.mesh_model.specs.declared.layer_decl.LayerDecl.{LayerDecl}
+use Rattle.mesh_model.specs.declared.names.Kind.{Kind}
+use Rattle.mesh_model.specs.declared.names.Kind.TheVariants.{Verts, Edges, Corners, Faces}
 use Rattle.mesh_model.specs.declared.refusal.Refusal.{Refusal}
 use Rattle.op_slots.specs.declared.bindings.Binding.{Binding}
 use Rattle.op_slots.specs.declared.command.Command.{Command}
@@ -21,6 +27,39 @@ use Rattle.mesh_session.specs.declared.reply.Reply.{Reply}
 use Rattle.mesh_session.specs.declared.reply.Reply.TheVariants.{Refused}
 use Rattle.mesh_session.proofs.KeptLayers.{KeepsLayers, op_keeps}
 use Rattle.obj_format.specs.Fixed.{BeginsFixed}
+
+-- ---- DECLARED LAYERS
+
+-- a layer behind others leaves the first ones
+first_one : (xs : List Layer) (l m : Layer) → take 1 xs ≡ l ∷ [] → take 1 (xs ++ m ∷ []) ≡ l ∷ []
+first_one [] l m h = absurd (cc)
+first_one (x ∷ xs) l m h = h
+
+first_two : (xs : List Layer) (k l m : Layer) → take 2 xs ≡ k ∷ l ∷ [] → take 2 (xs ++ m ∷ []) ≡ k ∷ l ∷ []
+first_two [] k l m h = absurd (cc)
+first_two (x ∷ []) k l m h = absurd (cc)
+first_two (x ∷ y ∷ xs) k l m h = h
+
+fixed_declared : (c : Complex) (d : LayerDecl) → BeginsFixed c → BeginsFixed (with_declared c d)
+fixed_declared c d h = by_kind d.kind
+  where
+    by_kind : (kind : Kind) → BeginsFixed (with_declared c (record d { kind = kind }))
+    by_kind Verts = record { corners = h.corners; faces = h.faces }
+    by_kind Edges = record { corners = h.corners; faces = h.faces }
+    by_kind Corners =
+        record { corners = first_one c.layers.corners _ (layer_of d) h.corners; faces = h.faces }
+    by_kind Faces =
+        record { corners = h.corners; faces = first_two c.layers.faces _ _ (layer_of d) h.faces }
+
+fixed_behind : (c : Complex) (ds : List LayerDecl) → BeginsFixed c → BeginsFixed (with_all_declared c ds)
+fixed_behind c [] h = h
+fixed_behind c (d ∷ ds) h = fixed_behind (with_declared c d) ds (fixed_declared c d h)
+
+-- layers that are declared stand behind the fixed ones
+pub fixed_all : (c : Complex) (ds : List LayerDecl) → c.layers ≡ fixed_layers → BeginsFixed (with_all_declared c ds)
+fixed_all c ds same = fixed_behind c ds (record { corners = rw same refl; faces = rw same refl })
+
+-- ---- COMMANDS
 
 -- the complex of an entry begins with the layers
 abbrev EntryFixed : Entry → Type 0

@@ -1,6 +1,7 @@
 pub mod Reading
 pub mod Writing
 pub mod Lines
+pub mod Listing
 pub mod Stepping
 pub mod Running
 pub mod Completing

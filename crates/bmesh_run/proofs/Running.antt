@@ -5,7 +5,7 @@ use Rattle.std.proofs.Math.Seq.{take-append-add}
 use Rattle.std.proofs.lemmas.List.{take-append-le, take_min}
 use Rattle.std.specs.Option.{option_map}
 use Rattle.op_slots.specs.declared.command.Command.{Command}
-use Rattle.mesh_session.specs.State.{State, fresh_state, first_state}
+use Rattle.mesh_session.specs.State.{State, fresh_state}
 use Rattle.mesh_session.specs.Steps.{steps}
 use Rattle.mesh_session.specs.declared.reply.Reply.{Reply}
 use Rattle.byte_sink.specs.Wrote.{with_after}
@@ -17,7 +17,7 @@ use Rattle.script_text.specs.declared.script.Script.{Script}
 use Rattle.script_text.specs.declared.fault.ScriptRefusal.{ScriptRefusal}
 use Rattle.bmesh_run.specs.Job.{Job, job_of, out_of}
 use Rattle.bmesh_run.specs.Run.{Outcome, model_of, script_named, refusal_outcome, replies_outcome, commands_outcome, with_script, with_model}
-use Rattle.bmesh_run.specs.Run.{outcome, model_line, script_line, usage_line}
+use Rattle.bmesh_run.specs.Run.{outcome, loaded, model_line, script_line, usage_line}
 use Rattle.bmesh_run.specs.Ends.{is_answer, made_with, begun_after, Ends}
 use Rattle.bmesh_run.specs.Whole.{AsksFor, OnlyReads, PrintsPart}
 use Rattle.worlds.specs.declared.start.Start.{Start}
@@ -156,10 +156,10 @@ ends_job words job files status final old new is h = rw is h
 -- the commands of a script were given, and their replies concluded
 pub ends_delivered : (scale : ℕ) (c : Complex) (s : Script) (start : State) (commands : List Command)
     (replies : List Reply)
-    (out : List ℕ) (status : Status) (final : State) (old new : Told) → start ≡ first_state c → commands ≡ s.commands
+    (out : List ℕ) (status : Status) (final : State) (old new : Told) → start ≡ loaded c s → commands ≡ s.commands
     → (replies, final) ≡ steps start commands
-    → Ends (replies_outcome scale commands replies final) out status final old new
+    → Ends (replies_outcome scale s.commands s.layers replies final) out status final old new
     → Ends (commands_outcome scale c s) out status final old new
 ends_delivered scale c s start commands replies out status final old new is_loaded are told h =
-    let all : steps (first_state c) s.commands ≡ (replies, final) = sym (rw (is_loaded, are) at told) in
-    rw all (rw are at h)
+    let all : steps (loaded c s) s.commands ≡ (replies, final) = sym (rw (is_loaded, are) at told) in
+    rw all h

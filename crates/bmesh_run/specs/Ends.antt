@@ -4,7 +4,7 @@ use Rattle.std.specs.Option.{option_map}
 use Rattle.std.specs.declared.option.Option.{Option}
 use Rattle.std.specs.declared.option.Option.TheVariants.{None, Some}
 use Rattle.mesh_model.specs.Complex.{Complex}
-use Rattle.mesh_session.specs.State.{State, fresh_state, first_state}
+use Rattle.mesh_session.specs.State.{State, fresh_state}
 use Rattle.mesh_session.specs.Steps.{steps}
 use Rattle.byte_sink.specs.Wrote.{with_after}
 use Rattle.byte_sink.specs.Causes.{Rose}
@@ -15,7 +15,8 @@ use Rattle.worlds.specs.Files.{Files, bytes_of, put}
 use Rattle.worlds.specs.Told.{Told}
 use Rattle.bmesh_run.specs.Whole.{KeepsCounts, AsksFor}
 use Rattle.bmesh_run.specs.Job.{Job, is_grid, is_tour, model_starts, script_starts, out_starts}
-use Rattle.bmesh_run.specs.Run.{Outcome, model_of, script_named, grid_refusal, usage_line, model_line, script_line}
+use Rattle.bmesh_run.specs.Run.{Outcome, loaded, model_of, script_named, grid_refusal, usage_line, model_line}
+use Rattle.bmesh_run.specs.Run.{script_line}
 use Rattle.worlds.specs.declared.start.Start.{Start}
 use Rattle.bmesh_run.specs.declared.status.Status.{Status}
 use Rattle.bmesh_run.specs.declared.status.Status.TheVariants.{Done, SomeRefused, Usage, ModelRefused, ScriptRefused}
@@ -145,9 +146,9 @@ EndsRunBy None status final old new = EndsBy [] [] [] status final old new
 EndsRunBy (Some job) status final old new =
     EndsBy (model_starts job.model) (script_starts job.script) (out_starts job.out) status final old new
 
--- the state after the first so many commands of a script on a complex
+-- the state after the first so many commands of a script on a complex with the script's layers
 abbrev pub IsOnTheWay : Complex → Script → State → Type 0
-IsOnTheWay c s final = (n : ℕ) × (final ≡ (steps (first_state c) (take n s.commands)).1)
+IsOnTheWay c s final = (n : ℕ) × (final ≡ (steps (loaded c s) (take n s.commands)).1)
 
 -- what an outcome says of a run: where the run ends with an answer, it is the outcome's, with the session and all that
 -- is made and

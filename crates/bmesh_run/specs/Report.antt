@@ -1,14 +1,16 @@
--- The report: a line for each command, and one for the end.
-use Rattle.std.specs.Prelude.{ℕ, ◌&&◌, Bool, true, false, is_some, codes, List, ◌++◌, length}
-use Rattle.std.specs.Fmt.{decimal}
+-- The report: a line for each command, one for each declared layer, and one for the end.
+use Rattle.std.specs.Prelude.{ℕ, ℤ, ◌&&◌, Bool, true, false, is_some, codes, List, ◌∷◌, ◌++◌, length, drop}
+use Rattle.std.specs.Fmt.{decimal, signed_decimal}
 use Rattle.std.specs.List.{count_by, flat_map, zip, enumerate_from}
 use Rattle.mesh_model.specs.Table.{live}
 use Rattle.mesh_model.specs.Complex.{Complex, corner_sum}
 use Rattle.mesh_model.specs.Incidence.{is_loose}
 use Rattle.mesh_model.specs.Words.{elem_text, kind_text, why_text}
+use Rattle.mesh_model.specs.declared.layer_decl.LayerDecl.{LayerDecl}
 use Rattle.mesh_model.specs.declared.refusal.Refusal.{Refusal}
 use Rattle.mesh_model.specs.declared.refusal.Place.{Place}
 use Rattle.mesh_model.specs.declared.refusal.Place.TheVariants.{Nowhere, Elem, Kind}
+use Rattle.layer_sums.specs.Sums.{layer_sums}
 use Rattle.op_slots.specs.declared.slots.Slots.{Slots}
 use Rattle.op_slots.specs.declared.command.Command.{Command}
 use Rattle.mesh_session.specs.State.{State}
@@ -47,6 +49,21 @@ abbrev pub is_refused : Reply → Bool
 is_refused (Done slots) = false
 is_refused (Refused r) = true
 
+-- numbers with a comma before each but the first
+abbrev pub listed : List ℤ → List ℕ
+listed xs = drop 1 (flat_map (λ x. 44 ∷ signed_decimal x) xs)
+
+-- the line of a declared layer: its kind, its name, and the sums of its numbers over all elements
+abbrev pub layer_line : Complex → LayerDecl → List ℕ
+layer_line c d =
+    codes "layer "
+    ++ (kind_text d.kind
+    ++ (codes " " ++ (d.name ++ (codes " sum=" ++ (listed (layer_sums c d.kind d.name) ++ codes "\n")))))
+
+-- the lines of declared layers in order
+abbrev pub layer_lines : Complex → List LayerDecl → List ℕ
+layer_lines c layers = flat_map (layer_line c) layers
+
 -- how many edges have no corner
 abbrev pub loose_count : Complex → ℕ
 loose_count c = count_by (λ e. is_some e.1 && is_loose c (record { 0 = e.0 })) (enumerate_from 0 c.edges)
@@ -71,6 +88,7 @@ command_counts refused s =
 abbrev pub end_line : ℕ → State → List ℕ
 end_line refused s = element_counts s.now ++ command_counts refused s
 
--- the report of commands by their replies and the last state
-abbrev pub report : List Command → List Reply → State → List ℕ
-report commands replies s = reply_lines commands replies ++ end_line (count_by is_refused replies) s
+-- the report of commands by their replies, of declared layers and of the last state
+abbrev pub report : List Command → List Reply → List LayerDecl → State → List ℕ
+report commands replies layers s =
+    reply_lines commands replies ++ (layer_lines s.now layers ++ end_line (count_by is_refused replies) s)

@@ -1,7 +1,14 @@
 -- Whole runs over small files, worked out.
 use Rattle.std.specs.Prelude.{◌≡◌, ℕ, pos, neg_ℤ, true, false, List, [], ◌∷◌, ◌++◌, codes}
 use Rattle.std.specs.declared.option.Option.TheVariants.{None, Some}
+use Rattle.cust_data.specs.declared.rule.Rule.{Rule}
+use Rattle.cust_data.specs.declared.rule.Rule.TheVariants.{Mix, Copy}
+use Rattle.layer_sums.specs.Rows.{valued}
 use Rattle.mesh_model.specs.Complex.{new_model}
+use Rattle.mesh_model.specs.Declaring.{with_all_declared}
+use Rattle.mesh_model.specs.declared.layer_decl.LayerDecl.{LayerDecl}
+use Rattle.mesh_model.specs.declared.names.Kind.{Kind}
+use Rattle.mesh_model.specs.declared.names.Kind.TheVariants as kind
 use Rattle.mesh_model.specs.Deleting.{without_verts}
 use Rattle.mesh_model.specs.Making.{with_vert, vert_at_point}
 use Rattle.mesh_model.specs.Models.{square, vert}
@@ -12,6 +19,7 @@ use Rattle.obj_format.specs.declared.obj_fault.ObjWhy.TheVariants as obj_why
 use Rattle.script_text.specs.declared.fault.ScriptWhy.TheVariants as script_why
 use Rattle.worlds.specs.Files.{Files}
 use Rattle.bmesh_run.specs.Job.{Job, is_grid, is_tour, model_starts, script_starts, out_starts}
+use Rattle.bmesh_run.specs.Report.{layer_lines}
 use Rattle.bmesh_run.specs.Run.{Outcome, refusal_outcome, outcome, due}
 use Rattle.bmesh_run.specs.declared.status.Status.TheVariants.{Done, SomeRefused, Usage, ModelRefused, ScriptRefused}
 
@@ -70,6 +78,30 @@ MissingVertex = outcome plain_words (files square_text (codes "delete geom=v9 co
   printed = codes "1 refused NoSuch v9\nend verts=4 edges=4 faces=1 corners=4 loose=0 refused=1 undo=0 redo=0\n";
   session = first_state square;
 }
+
+-- a layer that a script declares
+abbrev declared : Kind → List ℕ → ℕ → Rule → LayerDecl
+declared kind name width rule = record { kind = kind; name = name; width = width; rule = rule }
+
+-- layers are declared behind the fixed ones, and reported in order before the end; the model is written as it was
+abbrev pub LayersGiven : Type 0
+LayersGiven =
+    outcome plain_words (files square_text (codes "layer corners tint width=2 rule=mix\nlayer verts w width=1 rule=copy\n"))
+    ≡ record {
+      status = Done;
+      made = Some square_text;
+      printed = codes "layer corners tint sum=0,0\nlayer verts w sum=0\n"
+          ++ codes "end verts=4 edges=4 faces=1 corners=4 loose=0 refused=0 undo=0 redo=0\n";
+      session = first_state (with_all_declared square
+          (declared kind.Corners (codes "tint") 2 Mix ∷ declared kind.Verts (codes "w") 1 Copy ∷ []));
+    }
+
+-- the sums of a layer's numbers over all elements, some of them below 0
+abbrev pub LayersReported : Type 0
+LayersReported =
+    layer_lines valued (declared kind.Corners (codes "tint") 1 Mix ∷ declared kind.Edges (codes "crease") 4 Mix
+    ∷ declared kind.Verts (codes "weight") 1 Mix ∷ [])
+    ≡ codes "layer corners tint sum=-1\nlayer edges crease sum=1,2,3,-4\nlayer verts weight sum=-3\n"
 
 -- a model of one vertex, as it is read at a scale
 abbrev pub vertex_text : List ℕ

@@ -5,6 +5,8 @@ use Rattle.std.specs.List.{list_any}
 use Rattle.std.specs.declared.option.Option.{Option}
 use Rattle.std.specs.declared.option.Option.TheVariants.{None, Some}
 use Rattle.mesh_model.specs.Complex.{Complex}
+use Rattle.mesh_model.specs.Declaring.{with_all_declared}
+use Rattle.mesh_model.specs.declared.layer_decl.LayerDecl.{LayerDecl}
 use Rattle.op_slots.specs.declared.command.Command.{Command}
 use Rattle.mesh_session.specs.State.{State, fresh_state, first_state}
 use Rattle.mesh_session.specs.Steps.{steps}
@@ -70,19 +72,23 @@ pub record Outcome : Type 0 where
 abbrev pub refusal_outcome : Status → List ℕ → Outcome
 refusal_outcome status line = record { status = status; made = None; printed = line; session = fresh_state }
 
+-- the state before the first command: the model's complex with the script's layers, in which each element has zeros
+abbrev pub loaded : Complex → Script → State
+loaded c s = first_state (with_all_declared c s.layers)
+
 -- some replies and the last state: the text of its complex is written, and the report printed
-abbrev pub replies_outcome : ℕ → List Command → List Reply → State → Outcome
-replies_outcome scale commands replies s = record {
+abbrev pub replies_outcome : ℕ → List Command → List LayerDecl → List Reply → State → Outcome
+replies_outcome scale commands layers replies s = record {
   status = if list_any is_refused replies then SomeRefused else Done;
   made = Some (text scale s.now);
-  printed = report commands replies s;
+  printed = report commands replies layers s;
   session = s;
 }
 
--- the commands of a script in order on the model's complex
+-- the commands of a script in order on the model's complex with the script's layers
 abbrev pub commands_outcome : ℕ → Complex → Script → Outcome
 commands_outcome scale c s =
-    let all = steps (first_state c) s.commands in replies_outcome scale s.commands all.0 all.1
+    let all = steps (loaded c s) s.commands in replies_outcome scale s.commands s.layers all.0 all.1
 
 -- with the model's complex: the script is refused, or delivered
 abbrev pub with_script : ℕ → Complex → Result Script ScriptRefusal → Outcome

@@ -2,7 +2,8 @@
 //! call does anything.
 
 ghost use Rattle.bmesh_run.specs.Rows.{NamesOfFiles, SquareCut, NothingGiven, ScaleKept, ScaleOfSix};
-ghost use Rattle.bmesh_run.specs.Rows.{MissingVertex, InputsRefused, WordsRefused, FilesDue};
+ghost use Rattle.bmesh_run.specs.Rows.{MissingVertex, LayersGiven, LayersReported, InputsRefused, WordsRefused};
+ghost use Rattle.bmesh_run.specs.Rows.{FilesDue};
 
 /// Names that are no files.
 pub fn names()
@@ -14,6 +15,8 @@ pub fn delivered()
     ensures cut { SquareCut }
     ensures nothing { NothingGiven }
     ensures missing { MissingVertex }
+    ensures layers { LayersGiven }
+    ensures sums { LayersReported }
     ensures scale { ScaleKept }
     ensures six { ScaleOfSix }
 {}

@@ -3,10 +3,12 @@
 ghost use Rattle.std.specs.Prelude.{◌≡◌, ◌≤◌, ◌⊎◌, [], true, None, Some, length, map, if◌then◌else◌};
 ghost use Rattle.std.specs.String.{string_bytes};
 ghost use Rattle.std.specs.List.{list_any};
-ghost use Rattle.mesh_model.specs.Valid.{IsSound};
+ghost use Rattle.mesh_model.specs.Valid.{IsValid, IsSound};
 ghost use Rattle.mesh_session.specs.State.{fresh_state, IsSoundState, CyclesHoldIn};
 ghost use Rattle.byte_sink.specs.Wrote.{with_after};
+ghost use Rattle.mesh_model.specs.Complex.{fixed_layers};
 ghost use Rattle.obj_format.specs.Fixed.{BeginsFixed};
+ghost use Rattle.script_text.specs.Layers.{AreDeclarable};
 ghost use Rattle.bmesh_run.specs.Job.{out_starts};
 ghost use Rattle.bmesh_run.specs.Run.{model_line, script_line, usage_line, replies_outcome, commands_outcome};
 ghost use Rattle.bmesh_run.specs.Report.{report, is_refused};
@@ -25,7 +27,6 @@ use command_line::{Job, JobFault, job_of};
 use mesh_model::Draft;
 use mesh_session::{Reply, Session};
 use obj_text::ObjRefusal;
-use op_slots::Command;
 use script_text::{Script, ScriptRefusal};
 use std::alloc::Global;
 use worlds::{World, WorldFault};
@@ -33,8 +34,8 @@ use worlds::{World, WorldFault};
 // What is printed for words that are not accepted.
 const USAGE: &str = "usage: bmesh MODEL SCRIPT OUT [--scale N]\n";
 
-/// Runs a command line: reads the model and the script, gives the commands in order, writes the last
-/// complex and prints the report.
+/// Runs a command line: reads the model and the script, declares its layers, gives its commands in order, writes the
+/// last complex and prints the report, which has the sums of each declared layer.
 ///
 /// `words` are those after the program's name, `MODEL SCRIPT OUT [--scale N]` as `command_line::job_of` reads
 /// them, and the session is fresh. The words are judged first, then the model, and then the script: SCRIPT is
@@ -113,7 +114,7 @@ fn run_model<W: World>(
 ) -> Status
     requires fresh { session.old.state ≡ fresh_state }
     requires sound { IsSound draft.now }
-    requires fixed { BeginsFixed draft.now }
+    requires fixed { draft.now.layers ≡ fixed_layers }
     requires scale { scale ≤ 6 }
     ensures runs { RunsAs (modelled scale draft.now script.now out.now) result session.new.state (W.told world.old)
         (W.told world.new) }
@@ -139,7 +140,8 @@ fn deliver<W: World>(
 ) -> Status
     requires fresh { session.old.state ≡ fresh_state }
     requires sound { IsSound draft.now }
-    requires fixed { BeginsFixed draft.now }
+    requires fixed { draft.now.layers ≡ fixed_layers }
+    requires layers { AreDeclarable script.now.layers }
     requires scale { scale ≤ 6 }
     ensures ends { Ends (commands_outcome scale draft.now script.now) out.now result session.new.state
         (W.told world.old)
@@ -154,14 +156,15 @@ fn deliver<W: World>(
     ensures finished { is_delivered result ≡ true → (W.told world.new).begun ≡ None }
     ensures sound { IsSoundState session.new.state }
 {
-    let Ok(()) = session.load(draft) else {
+    let layers = script.layers.as_slice();
+    let Ok(()) = session.load(draft, layers) else {
         return Status::NoMemory;
     };
     let commands = script.commands.as_slice();
     match run_commands(alloc, session, commands) {
         Ok(replies) => {
             let replies = replies.as_slice();
-            conclude(alloc, session, commands, replies, out, scale, world)
+            conclude(alloc, session, script, replies, out, scale, world)
         }
         Err(_) => Status::NoMemory,
     }
@@ -171,7 +174,7 @@ fn deliver<W: World>(
 fn conclude<W: World>(
     alloc: Global,
     session: &Session,
-    commands: &[Command],
+    script: &Script,
     replies: &[Reply],
     out: &str,
     scale: u8,
@@ -180,8 +183,9 @@ fn conclude<W: World>(
     requires sound { IsSoundState session.now.state }
     requires fixed { BeginsFixed session.now.state.now }
     requires scale { scale ≤ 6 }
-    requires long { length replies.now ≡ length commands.now }
-    ensures ends { Ends (replies_outcome scale commands.now replies.now session.now.state) out.now result
+    requires long { length replies.now ≡ length script.now.commands }
+    ensures ends { Ends
+        (replies_outcome scale script.now.commands script.now.layers replies.now session.now.state) out.now result
         session.now.state (W.told world.old) (W.told world.new) }
     ensures goes_on { is_past_script result ≡ true }
     ensures cause { Caused result (W.told world.old) (W.told world.new) }
@@ -191,7 +195,7 @@ fn conclude<W: World>(
     ensures finished { is_delivered result ≡ true → (W.told world.new).begun ≡ None }
 {
     match write_file(alloc, world, out, session, scale) {
-        Ok(()) => print_report(alloc, session, commands, replies, world),
+        Ok(()) => print_report(alloc, session, script, replies, world),
         Err(WorldFault::Failed) => Status::OutFault,
         Err(WorldFault::NoMemory) => Status::NoMemory,
     }
@@ -201,27 +205,31 @@ fn conclude<W: World>(
 fn print_report<W: World>(
     alloc: Global,
     session: &Session,
-    commands: &[Command],
+    script: &Script,
     replies: &[Reply],
     world: &mut W,
 ) -> Status
-    requires { length replies.now ≡ length commands.now }
+    requires long { length replies.now ≡ length script.now.commands }
+    requires valid { IsValid session.now.state.now }
     ensures status { is_answer result ≡ true
         → result ≡ (if list_any is_refused replies.now then Status.SomeRefused else Status.Done) }
     ensures all { is_answer result ≡ true
         → W.told world.new ≡ record (W.told world.old) {
           printed =
-              with_after (W.told world.old).printed (report commands.now replies.now session.now.state);
+              with_after (W.told world.old).printed
+              (report script.now.commands replies.now script.now.layers session.now.state);
         } }
     ensures part { PrintsPart (W.told world.old) (W.told world.new)
-        (report commands.now replies.now session.now.state) }
+        (report script.now.commands replies.now script.now.layers session.now.state) }
     ensures goes_on { is_past_script result ≡ true }
     ensures cause { Caused result (W.told world.old) (W.told world.new) }
 {
-    let Ok(text) = report(alloc, commands, replies, session) else {
+    let commands = script.commands.as_slice();
+    let layers = script.layers.as_slice();
+    let Ok(text) = report(alloc, commands, replies, layers, session) else {
         return Status::NoMemory;
     };
-    match print_all(world, text.as_bytes()) {
+    match print_all(world, &text) {
         Ok(()) => status_of(replies),
         Err(WorldFault::Failed) => Status::OutFault,
         Err(WorldFault::NoMemory) => Status::NoMemory,

@@ -482,6 +482,15 @@ fn scripts_are_refused(rt: HostRuntime) -> Result<(), Fail> {
             "script line 2: LateLayer\n",
         ),
         ("undo\npoke faces=\n", "script line 2: NotYet\n"),
+        (
+            "layer verts w width=5 rule=mix\n",
+            "script line 1: BadLayer\n",
+        ),
+        (
+            "layer corners w width=2 rule=mix\nlayer corners uv width=2 rule=mix\n",
+            "script line 2: BadLayer\n",
+        ),
+        ("layer points\n", "script line 1: UnknownWord\n"),
     ] {
         assert!(rt;
             gives(rt.alloc(), "v 0 0 0\n", script, 4, None, line)?,

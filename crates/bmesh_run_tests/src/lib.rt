@@ -6,6 +6,8 @@ mod commands;
 #[cfg(test)]
 mod copies;
 #[cfg(test)]
+mod layers;
+#[cfg(test)]
 mod runs;
 #[cfg(test)]
 mod values;

@@ -4,3 +4,4 @@ pub mod Arguments
 pub mod Performances
 pub mod Undoing
 pub mod KeptLayers
+pub mod Declared

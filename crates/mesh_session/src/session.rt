@@ -1,5 +1,6 @@
 //! The session.
-ghost use Rattle.std.specs.Prelude.{◌≡◌, true, OnErr, OnOk, IfOk, length};
+ghost use Rattle.std.specs.Prelude.{◌≡◌, true, None, OnErr, OnOk, IfOk, length};
+ghost use Rattle.mesh_model.specs.Declaring.{first_declaration_fault, with_all_declared};
 ghost use Rattle.mesh_model.specs.Valid.{IsSound};
 ghost use Rattle.mesh_session.specs.Operators.{op_row};
 ghost use Rattle.mesh_session.specs.State.{fresh_state, first_state, IsSoundState, CyclesHoldIn, is_new};
@@ -9,7 +10,7 @@ use crate::history::{History, is_new};
 use crate::reply::{Reply, unable};
 use crate::stepping;
 use mesh_core::Mesh;
-use mesh_model::Draft;
+use mesh_model::{Draft, LayerDecl, Shape};
 use op_slots::{Command, Op, What};
 use sequence::{NoMemory, Text};
 use std::alloc::Global;
@@ -52,17 +53,19 @@ impl Session {
         session
     }
 
-    /// Loads a complex into a fresh session, in time proportional to the complex. After `NoMemory` the
-    /// session is fresh.
-    pub fn load(&mut self, draft: &Draft) -> Result<(), NoMemory>
+    /// Loads a complex into a fresh session, with further layers, declared one after another, in which each element
+    /// has zeros. In time proportional to the complex. After `NoMemory` the session is fresh.
+    pub fn load(&mut self, draft: &Draft, layers: &[LayerDecl]) -> Result<(), NoMemory>
         requires fresh { self.old.state ≡ fresh_state }
         requires sound { IsSound draft.now }
-        ensures ok { OnOk result (self.new.state ≡ first_state draft.now) }
+        requires layers { first_declaration_fault draft.now.layers layers.now ≡ None }
+        ensures ok { OnOk result (self.new.state ≡ first_state (with_all_declared draft.now layers.now)) }
         ensures err { OnErr result (self.new.state ≡ fresh_state) }
         ensures sound { IsSoundState self.new.state }
         ensures cycles { CyclesHoldIn self.new }
     {
-        let loaded = self.mesh.load(draft, &[]);
+        let loaded = self.mesh.load(draft, layers);
+        let _ = self.mesh.counters();
         self.cycles_hold();
         loaded
     }

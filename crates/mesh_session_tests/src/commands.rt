@@ -47,7 +47,7 @@ pub(crate) fn with_model(alloc: Global, draft: &Draft) -> Result<Session, NoMemo
     requires { IsSound draft.now }
 {
     let mut session = Session::new(alloc);
-    session.load(draft)?;
+    session.load(draft, &[])?;
     Ok(session)
 }
 

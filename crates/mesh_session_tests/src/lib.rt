@@ -8,6 +8,8 @@ mod commands;
 #[cfg(test)]
 mod confirm;
 #[cfg(test)]
+mod layers;
+#[cfg(test)]
 mod many;
 #[cfg(test)]
 mod told;

@@ -3,7 +3,8 @@
 ghost use Rattle.std.specs.Prelude.{◌≡◌, ◌≤◌, ℕ, true, false, Some, IfOk};
 ghost use Rattle.mesh_model.specs.Valid.{IsSound};
 ghost use Rattle.obj_reader.specs.Obj.{read_text};
-ghost use Rattle.obj_format.specs.Fixed.{BeginsFixed};
+ghost use Rattle.mesh_model.specs.Complex.{fixed_layers};
+ghost use Rattle.script_text.specs.Layers.{AreDeclarable};
 ghost use Rattle.script_text.specs.Script.{script_of};
 ghost use Rattle.worlds.specs.Files.{Files};
 ghost use Rattle.bmesh_run.specs.Job.{is_grid, is_tour, model_starts, script_starts};
@@ -39,7 +40,7 @@ pub fn read_model<W: World>(
         → Judges result (model_of scale name.now files) }
     ensures grid { is_grid name.now ≡ true → result ≡ Err (Stop.Refused grid_refusal) }
     ensures sound { IfOk result (λ d. IsSound d) }
-    ensures fixed { IfOk result (λ d. BeginsFixed d) }
+    ensures fixed { IfOk result (λ d. d.layers ≡ fixed_layers) }
     ensures still { is_grid name.now ≡ true → W.told world.new ≡ W.told world.old }
     ensures only { OnlyReads (W.told world.old) (W.told world.new) }
     ensures asked { AsksBefore result (model_starts name.now) (W.told world.old) (W.told world.new) }
@@ -65,7 +66,7 @@ fn judge_model(alloc: Global, scale: u8, bytes: &[u8]) -> Result<Draft, Stop<Obj
     requires { scale ≤ 6 }
     ensures judged { Judges result (read_text scale bytes.now) }
     ensures sound { IfOk result (λ d. IsSound d) }
-    ensures fixed { IfOk result (λ d. BeginsFixed d) }
+    ensures fixed { IfOk result (λ d. d.layers ≡ fixed_layers) }
     ensures never { result ≡ Err Stop.Failed → ⊥ }
 {
     let mut reader = Reader::new(alloc, scale);
@@ -87,6 +88,7 @@ pub fn read_script<W: World>(
 ) -> Result<Script, Stop<ScriptRefusal>>
     ensures judged { (files : Files) → (W.told world.old).files ≡ Some files
         → Judges result (script_named name.now files) }
+    ensures layers { IfOk result (λ s. AreDeclarable s.layers) }
     ensures still { is_tour name.now ≡ true → W.told world.new ≡ W.told world.old }
     ensures only { OnlyReads (W.told world.old) (W.told world.new) }
     ensures asked { AsksBefore result (script_starts name.now) (W.told world.old) (W.told world.new) }
@@ -110,6 +112,7 @@ pub fn read_script<W: World>(
 // The script of some bytes.
 fn judge_script(alloc: Global, bytes: &[u8]) -> Result<Script, Stop<ScriptRefusal>>
     ensures judged { Judges result (script_of bytes.now) }
+    ensures layers { IfOk result (λ s. AreDeclarable s.layers) }
     ensures never { result ≡ Err Stop.Failed → ⊥ }
 {
     match parse(alloc, bytes) {

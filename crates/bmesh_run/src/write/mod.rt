@@ -1,4 +1,5 @@
 //! Files that are written, and what is printed.
 
+pub mod layers;
 pub mod report;
 pub mod whole_file;

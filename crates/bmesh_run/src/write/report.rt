@@ -1,33 +1,41 @@
-//! The report: a line for each command, and one for the end.
+//! The report: a line for each command, one for each declared layer, and one for the end.
 
 ghost use Rattle.std.specs.Prelude.{◌≡◌, ◌++◌, ◌&&◌, length, is_some, IfOk};
 ghost use Rattle.std.specs.String.{string_bytes};
 ghost use Rattle.std.specs.List.{count_by, list_any, flat_map};
 ghost use Rattle.mesh_model.specs.Table.{at, live};
 ghost use Rattle.mesh_model.specs.Incidence.{is_loose};
+ghost use Rattle.mesh_model.specs.Valid.{IsValid};
 ghost use Rattle.bmesh_run.specs.Report.{count_line, reply_line, reply_lines, refused_line, done_line, is_refused};
 ghost use Rattle.bmesh_run.specs.Report.{loose_count};
 ghost use Rattle.bmesh_run.specs.Report.{element_counts, command_counts, end_line, report};
 
-use mesh_model::{EdgeName, Elem, FaceName, NoMemory, Place, Refusal, Shape, VertName};
+use crate::write::layers::push_layers;
+use mesh_model::{EdgeName, Elem, FaceName, LayerDecl, NoMemory, Place, Refusal, Shape, VertName};
 use mesh_session::{Reply, Session};
 use op_slots::{Command, Slots};
 use std::alloc::Global;
 
-/// The report of some commands by their replies and the session after them.
-/// In time proportional to the commands and the names of the session's complex.
+/// The report of some commands by their replies, of declared layers, and of the session after them. In time
+/// proportional to the commands and the names of the session's complex, and to the numbers of the elements of each kind
+/// that a layer is of.
 pub fn report(
     alloc: Global,
     commands: &[Command],
     replies: &[Reply],
+    layers: &[LayerDecl],
     session: &Session,
-) -> Result<String, NoMemory>
-    requires { length replies.now ≡ length commands.now }
-    ensures { IfOk result (λ t. string_bytes t ≡ report commands.now replies.now session.now.state) }
+) -> Result<Vec<u8>, NoMemory>
+    requires long { length replies.now ≡ length commands.now }
+    requires valid { IsValid session.now.state.now }
+    ensures { IfOk result (λ t. t.items ≡ report commands.now replies.now layers.now session.now.state) }
 {
-    let mut text = reply_lines(alloc, commands, replies)?;
+    let mut text = Vec::new(alloc);
+    let lines = reply_lines(alloc, commands, replies)?;
+    text.extend_from_slice(lines.as_bytes())?;
+    push_layers(alloc, session, layers, &mut text)?;
     let end = end_line(alloc, refused_count(replies), session)?;
-    text.push_str(end.as_str())?;
+    text.extend_from_slice(end.as_bytes())?;
     Ok(text)
 }
 

@@ -16,6 +16,15 @@ pub returns-clause-missing : goal.returns-clause-missing
 unfolding digits
 returns-clause-missing c = run_at_zero (files square_text (codes "delete geom=v9 context=verts\n")) ∙ refl
 
+pub returns-clause-layers : goal.returns-clause-layers
+unfolding digits
+returns-clause-layers c =
+    run_at_zero (files square_text (codes "layer corners tint width=2 rule=mix\nlayer verts w width=1 rule=copy\n")) ∙ refl
+
+pub returns-clause-sums : goal.returns-clause-sums
+unfolding digits
+returns-clause-sums c = refl
+
 pub returns-clause-scale : goal.returns-clause-scale
 unfolding digits
 returns-clause-scale c =
